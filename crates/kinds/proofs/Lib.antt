@@ -1,0 +1,5 @@
+pub mod Ring
+pub mod Sames
+pub mod Tables
+pub mod Weekdays
+pub mod Wholes

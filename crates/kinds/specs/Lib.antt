@@ -1,0 +1,4 @@
+pub mod Kind
+pub mod Equation
+pub mod Weekday
+pub mod Whole
