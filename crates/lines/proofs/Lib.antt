@@ -1,2 +1,4 @@
+pub mod Accepting
 pub mod Digits
 pub mod Finding
+pub mod Words

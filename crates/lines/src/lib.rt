@@ -1,3 +1,4 @@
 // Lines of hexadecimal digits, read and written, the page that they are written to, and the faults of all layers.
 pub mod fault;
 pub mod hex;
+pub mod reading;
