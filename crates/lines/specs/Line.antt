@@ -2,6 +2,7 @@
 use Prim.Native.Nat.{ℕ, zero, suc, _+_, _*_}
 use mathlib.Core.Bool.{Bool, true, false, cond, _||_}
 use mathlib.Core.List.{List, [], _∷_, _++_}
+use mathlib.Core.Path.{_≡_}
 use lib.Dec.{eqb, ltb}
 use lib.IntN.{ℤ, pos, negsuc}
 use lib.ListN.{length, take, drop}
@@ -92,3 +93,10 @@ read-of lent known bytes = answered (read-refusal lent known bytes) (line-of byt
 abbrev pub words-left : Option LineFault → List ℕ → List ℤ → List ℤ
 words-left None bytes old = numbers bytes ++ drop (count-of bytes) old
 words-left (Some fault) bytes old = old
+
+-- a line that was written is accepted by whoever knows its frame, with the same frame and the same numbers, if none of
+-- them is -2147483648
+abbrev pub Reads-back : ℕ → List ℤ → Type 0
+Reads-back frame ws =
+    (known : List ℕ) → has frame known ≡ true → find is-lowest ws ≡ None →
+    (refusal known (line-text frame ws) ≡ None) × (frame-of (line-text frame ws) ≡ frame) × (numbers (line-text frame ws) ≡ ws)

@@ -71,3 +71,7 @@ closed m = between (over (over (m .bytes) (m .end + 2) (text 2 (m .put))) (m .en
 -- the line given up: all that it could fill is zero
 abbrev pub given-up : Model → Model
 given-up m = between (zeroed (m .bytes) (m .end) (5 + 8 * m .room)) (m .end)
+
+-- the bytes of whole lines put at the end of a page
+abbrev pub with-text : Model → List ℕ → Model
+with-text m s = between (over (m .bytes) (m .end) s) (m .end + length s)

@@ -3,3 +3,4 @@ pub mod fault;
 pub mod hex;
 pub mod page;
 pub mod reading;
+pub mod writing;
