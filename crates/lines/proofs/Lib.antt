@@ -1,4 +1,5 @@
 pub mod Accepting
+pub mod Cuts
 pub mod Digits
 pub mod Filling
 pub mod Finding
