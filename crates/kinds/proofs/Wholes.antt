@@ -44,7 +44,7 @@ fitted-is z n e =
 pub fitted-none : (z : ℤ) → 2147483647 < natAbs z → fitted z ≡ None
 fitted-none z h = cond-false (leb (natAbs z) 2147483647) (Some (nearest z)) None (lt-leb _ _ h)
 
-fitted-value : (z : ℤ) (n : Whole) → fitted z ≡ Some n → n .value ≡ z
+pub fitted-value : (z : ℤ) (n : Whole) → fitted z ≡ Some n → n .value ≡ z
 fitted-value z n e = by (leb (natAbs z) 2147483647) refl e
   where
     by : (t : Bool) → leb (natAbs z) 2147483647 ≡ t → cond t (Some (nearest z)) None ≡ Some n → n .value ≡ z
@@ -56,7 +56,7 @@ abs-neg (pos zero) = refl
 abs-neg (pos (suc n)) = refl
 abs-neg (negsuc n) = refl
 
-abs-zero : (z : ℤ) → natAbs z ≡ 0 → z ≡ pos 0
+pub abs-zero : (z : ℤ) → natAbs z ≡ 0 → z ≡ pos 0
 abs-zero z e = omega (arith, ints)
 
 pub abs-mul : (a b : ℤ) → natAbs (a *ℤ b) ≡ natAbs a * natAbs b

@@ -9,7 +9,7 @@ use lib.IntN.{ℤ}
 use lib.ListN.{length, take, drop}
 use Rattle.std.specs.shelf.Lists.{joined, All}
 use Rattle.std.proofs.shelf.Elements.{all-take, all-drop, all-weaker}
-use Rattle.std.proofs.shelf.Lists.{length-take-le, length-drop, take-append-drop, drop-drop}
+use Rattle.std.proofs.shelf.Lists.{length-take-le, length-drop, take-append-drop, take-at, drop-drop}
 use Rattle.std.proofs.shelf.Tests.{ltb-false, le-ltb, eqb-true, or-parts, cond-false}
 use Rattle.std.specs.declared.option.Option.{Option}
 use Rattle.std.specs.declared.option.Option.the-variants.{Some, None}
@@ -18,7 +18,7 @@ use Rattle.lines.specs.declared.fault.LineFault.{LineFault}
 use Rattle.lines.specs.declared.fault.LineFault.the-variants.{FewWords}
 use Rattle.lines.specs.declared.reading.Line.{Line}
 use Rattle.lines.specs.Hex.{Hex, hex-value, no-digit, find, number-of, word-of, text, word-text}
-use Rattle.lines.specs.Line.{line-text, frame-of, count-of, words-of, numbers, is-lowest, has, first, at-place, length-refusal, digit-refusal, size-refusal, frame-refusal, number-refusal, refusal, read-refusal, answered}
+use Rattle.lines.specs.Line.{line-text, frame-of, count-of, words-of, numbers, is-lowest, has, first, at-place, length-refusal, digit-refusal, size-refusal, frame-refusal, number-refusal, refusal, read-refusal, read-of, answered, line-of, words-left}
 use Rattle.lines.proofs.Digits.{text-number, word-text-word}
 use Rattle.lines.proofs.Finding.{find-none}
 use Rattle.lines.proofs.Words.{length-words-of}
@@ -77,6 +77,19 @@ answered-err (Some g) x f e = cc
 -- enough words
 pub enough : (lent : ℕ) (known bytes : List ℕ) → 25 ≤ lent → read-refusal lent known bytes ≡ refusal known bytes
 enough lent known bytes h = ap (λ o. first o (refusal known bytes)) (cond-false (ltb lent 25) (Some FewWords) None (le-ltb lent 25 h))
+
+-- what an answer of reading says of the line
+pub read-ok : (lent : ℕ) (known bytes : List ℕ) (line : Line) → 25 ≤ lent → read-of lent known bytes ≡ Ok line → (refusal known bytes ≡ None) × (line-of bytes ≡ line)
+read-ok lent known bytes line h e = let a = answered-ok (read-refusal lent known bytes) (line-of bytes) line e in (sym (enough lent known bytes h) ∙ a .0, a .1)
+
+pub read-err : (lent : ℕ) (known bytes : List ℕ) (f : LineFault) → 25 ≤ lent → read-of lent known bytes ≡ Err f → refusal known bytes ≡ Some f
+read-err lent known bytes f h e = sym (enough lent known bytes h) ∙ answered-err (read-refusal lent known bytes) (line-of bytes) f e
+
+-- the words of a line that was accepted, and then what they held
+pub words-kept : (known bytes : List ℕ) (old : List ℤ) → refusal known bytes ≡ None → take (count-of bytes) (words-left (refusal known bytes) bytes old) ≡ numbers bytes
+words-kept known bytes old e =
+    ap (λ (o : Option LineFault). take (count-of bytes) (words-left o bytes old)) e
+    ∙ take-at (numbers bytes) (drop (count-of bytes) old) (count-of bytes) (length-words-of (count-of bytes) (drop 4 bytes))
 
 -- words that were read are written again
 joined-words : (n : ℕ) (ds : List ℕ) → length ds ≡ 8 * n → Hex ds → joined word-text (words-of n ds) ≡ ds
