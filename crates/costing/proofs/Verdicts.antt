@@ -17,7 +17,7 @@ use Rattle.kinds.specs.declared.whole.Whole.{Whole}
 use Rattle.kinds.specs.Equation.{Equation, dot, Meets}
 use Rattle.kinds.proofs.Sames.{same-eq}
 use Rattle.kinds.proofs.Wholes.{equal, abs-zero}
-use Rattle.lines.specs.declared.fault.LineFault.{LineFault}
+use Rattle.faults.specs.declared.LineFault.{LineFault}
 use Rattle.lines.specs.Line.{numbers, refusal}
 use Rattle.costing.specs.declared.Refusal.{Refusal}
 use Rattle.costing.specs.declared.Refusal.the-variants.{Equation as InEquation, Plan as InPlan, Count, Overflow}

@@ -13,8 +13,8 @@ use Rattle.std.specs.declared.result.Result.the-variants.{Ok, Err}
 use Rattle.kinds.specs.declared.whole.Whole.{Whole}
 use Rattle.kinds.specs.Equation.{Equation, Meets}
 use Rattle.kinds.specs.Whole.{fitted}
-use Rattle.lines.specs.declared.fault.LineFault.{LineFault}
-use Rattle.lines.specs.Faults.{line-fault}
+use Rattle.faults.specs.declared.LineFault.{LineFault}
+use Rattle.faults.specs.Faults.{line-fault}
 use Rattle.lines.specs.Line.{numbers, refusal}
 use Rattle.costing.specs.declared.Refusal.{Refusal}
 use Rattle.costing.specs.declared.Refusal.the-variants.{Equation as InEquation, Plan as InPlan, Count, Overflow}

@@ -12,7 +12,7 @@ ghost use Rattle.costing.specs.Costing.{running, judgement, verdict, refusal-n
 use kinds::kind::Kind;
 use kinds::whole::Whole;
 use kinds::whole::arithmetic::WholeKind;
-use lines::fault::LineFault;
+use faults::LineFault;
 use lines::reading::MOST_NUMBERS;
 use lines::reading::read_line;
 
@@ -115,9 +115,7 @@ pub extern "C" fn costing_meets(equation: &[u8], plan: &[u8]) -> i32
     ensures means { λ r. ⌜ Means r (now (equation .entry)) (now (plan .entry)) ⌝ }
 {
     match meets(equation, plan) {
-        Ok(met) => {
-            if met { 1 } else { 0 }
-        }
+        Ok(met) => { if met { 1 } else { 0 } }
         Err(refusal) => refusal.number() as i32,
     }
 }

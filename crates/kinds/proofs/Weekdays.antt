@@ -100,8 +100,8 @@ rest-none c d q e =
     let v = quotient-value c d q e in
     let t = below-2 (λ a b. eqb b 0 || eqb (((a * b ^ 5) % 7 * b) % 7) a) 7 refl (c .value) (d .value) (c .ok) (d .ok) in
     let m : (q .value * d .value) % 7 ≡ c .value % 7 = ap (λ (x : Weekday). (x .value * d .value) % 7) (v .1)
-      ∙ ⊎-elim (λ z. absurd (v .0 (eqb-true _ _ z))) (eqb-true (((c .value * d .value ^ 5) % 7 * d .value) % 7) (c .value)) (or-cases _ _ t)
-      ∙ sym (mod-eq-of-lt (c .ok)) in
+    ∙ ⊎-elim (λ z. absurd (v .0 (eqb-true _ _ z))) (eqb-true (((c .value * d .value ^ 5) % 7 * d .value) % 7) (c .value)) (or-cases _ _ t)
+    ∙ sym (mod-eq-of-lt (c .ok)) in
     same-trans (same-add (same-eq {a = pos (c .value)} refl) (same-neg (rest-same (q .value * d .value) (c .value) m))) (same-eq (+ℤ-invr (pos (c .value))))
 
 unit-inverted : (n : Weekday) → (i : Weekday) × Same 7 (pos (weekdays .unit n .value) *ℤ pos (i .value)) (pos 1)

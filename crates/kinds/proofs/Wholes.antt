@@ -70,8 +70,8 @@ no-divisors-0 x y s =
     let p : natAbs x * natAbs y ≡ 0 = sym (abs-mul x y) ∙ ap natAbs (equal s) in
     ⊎-elim (λ e. inl (same-eq (abs-zero x e)))
     (λ f. ⊎-elim (λ e. inr (same-eq (abs-zero y e)))
-      (λ g. let k : 0 < natAbs x = omega arith in let l : 0 < natAbs y = omega arith in let m = mul-pos k l in absurd (omega arith))
-      (cases-eq (natAbs y) 0))
+    (λ g. let k : 0 < natAbs x = omega arith in let l : 0 < natAbs y = omega arith in let m = mul-pos k l in absurd (omega arith))
+    (cases-eq (natAbs y) 0))
     (cases-eq (natAbs x) 0)
 
 -- what rounding down leaves

@@ -14,8 +14,8 @@ use Rattle.std.proofs.shelf.Tests.{ltb-false, le-ltb, eqb-true, or-parts, cond-
 use Rattle.std.specs.declared.option.Option.{Option}
 use Rattle.std.specs.declared.option.Option.the-variants.{Some, None}
 use Rattle.std.specs.declared.result.Result.the-variants.{Ok, Err}
-use Rattle.lines.specs.declared.fault.LineFault.{LineFault}
-use Rattle.lines.specs.declared.fault.LineFault.the-variants.{FewWords}
+use Rattle.faults.specs.declared.LineFault.{LineFault}
+use Rattle.faults.specs.declared.LineFault.the-variants.{FewWords}
 use Rattle.lines.specs.declared.reading.Line.{Line}
 use Rattle.lines.specs.Hex.{Hex, hex-value, no-digit, find, number-of, word-of, text, word-text}
 use Rattle.lines.specs.Line.{line-text, frame-of, count-of, words-of, numbers, is-lowest, has, first, at-place, length-refusal, digit-refusal, size-refusal, frame-refusal, number-refusal, refusal, read-refusal, read-of, answered, line-of, words-left}

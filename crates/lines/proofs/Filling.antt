@@ -11,7 +11,7 @@ use lib.Dec.{ltb}
 use Rattle.std.specs.shelf.Lists.{joined}
 use Rattle.std.proofs.shelf.Tests.{ltb-false}
 use Rattle.std.specs.declared.option.Option.the-variants.{Some, None}
-use Rattle.lines.specs.declared.fault.PageFault.the-variants.{NoRoom, LineBegun, TooMany}
+use Rattle.faults.specs.declared.PageFault.the-variants.{NoRoom, LineBegun, TooMany}
 use Rattle.std.proofs.shelf.Lists.{append-assoc, append-nil, length-append, length-take-le, length-replicate, length-push, take-at, drop-at, take-more, replicate-append-replicate, joined-more}
 use Rattle.lines.specs.Hex.{text, word-text}
 use Rattle.lines.specs.Line.{line-text}

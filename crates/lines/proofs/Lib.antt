@@ -1,5 +1,4 @@
 pub mod Accepting
-pub mod Cuts
 pub mod Digits
 pub mod Filling
 pub mod Finding

@@ -14,9 +14,9 @@ use Rattle.std.proofs.shelf.Elements.{all-append, all-weaker}
 use Rattle.std.proofs.shelf.Tests.{le-ltb, eq-eqb, or-from, cond-true, cond-false}
 use Rattle.std.specs.declared.option.Option.{Option}
 use Rattle.std.specs.declared.option.Option.the-variants.{Some, None}
-use Rattle.lines.specs.declared.fault.LineFault.{LineFault}
-use Rattle.lines.specs.declared.fault.LineFault.the-variants.{Length, NoDigit, Size, Frame, Number}
-use Rattle.lines.specs.declared.fault.NumberFault.the-variants.{Lowest}
+use Rattle.faults.specs.declared.LineFault.{LineFault}
+use Rattle.faults.specs.declared.LineFault.the-variants.{Length, NoDigit, Size, Frame, Number}
+use Rattle.faults.specs.declared.NumberFault.the-variants.{Lowest}
 use Rattle.lines.specs.Hex.{Hex, hex-value, no-digit, find, number-of, word-of, text, word-text}
 use Rattle.lines.specs.Line.{line-text, frame-of, count-of, words-of, numbers, is-lowest, has, first, at-place, length-refusal, digit-refusal, size-refusal, frame-refusal, number-refusal, refusal, Reads-back}
 use Rattle.lines.proofs.Digits.{hex-text, number-text, word-word-text}

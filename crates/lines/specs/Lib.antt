@@ -1,5 +1,3 @@
-pub mod Cutting
-pub mod Faults
 pub mod Hex
 pub mod Line
 pub mod Page

@@ -11,9 +11,9 @@ use Rattle.std.specs.declared.option.Option.{Option}
 use Rattle.std.specs.declared.option.Option.the-variants.{Some, None}
 use Rattle.std.specs.declared.result.Result.{Result}
 use Rattle.std.specs.declared.result.Result.the-variants.{Ok, Err}
-use Rattle.lines.specs.declared.fault.NumberFault.the-variants.{Lowest}
-use Rattle.lines.specs.declared.fault.LineFault.{LineFault}
-use Rattle.lines.specs.declared.fault.LineFault.the-variants.{FewWords, Length, NoDigit, Size, Frame, Number}
+use Rattle.faults.specs.declared.NumberFault.the-variants.{Lowest}
+use Rattle.faults.specs.declared.LineFault.{LineFault}
+use Rattle.faults.specs.declared.LineFault.the-variants.{FewWords, Length, NoDigit, Size, Frame, Number}
 use Rattle.lines.specs.declared.reading.Line.{Line}
 use Rattle.lines.specs.Hex.{number-of, word-of, text, word-text, find, no-digit}
 

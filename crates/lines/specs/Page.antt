@@ -8,8 +8,8 @@ use lib.IntN.{ℤ}
 use denote.Ref.{now}
 use Rattle.std.specs.declared.option.Option.{Option}
 use Rattle.std.specs.declared.option.Option.the-variants.{Some, None}
-use Rattle.lines.specs.declared.fault.PageFault.{PageFault}
-use Rattle.lines.specs.declared.fault.PageFault.the-variants.{NoRoom, LineBegun, NoLine, TooMany}
+use Rattle.faults.specs.declared.PageFault.{PageFault}
+use Rattle.faults.specs.declared.PageFault.the-variants.{NoRoom, LineBegun, NoLine, TooMany}
 use Rattle.lines.specs.declared.page.Page.{Page}
 use Rattle.lines.specs.Hex.{text, word-text}
 

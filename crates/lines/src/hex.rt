@@ -65,7 +65,16 @@ pub fn word_digits(word: i32) -> [u8; 8]
     let f = e / 16;
     let g = f / 16;
     let h = g / 16;
-    [low(h), low(g), low(f), low(e), low(d), low(c), low(b), low(a)]
+    [
+        low(h),
+        low(g),
+        low(f),
+        low(e),
+        low(d),
+        low(c),
+        low(b),
+        low(a),
+    ]
 }
 
 // The word that eight digits write.

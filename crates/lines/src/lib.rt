@@ -1,6 +1,4 @@
-// Lines of hexadecimal digits, read and written, the page that they are written to, and the faults of all layers.
-pub mod cutting;
-pub mod fault;
+// Lines of hexadecimal digits, read and written, and the page that they are written to.
 pub mod hex;
 pub mod page;
 pub mod reading;

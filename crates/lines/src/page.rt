@@ -3,7 +3,8 @@ ghost use Prim.Native.Nat.{_+_, _*_, _≤_};
 ghost use denote.Ref.{now};
 ghost use lib.ListN.{length};
 ghost use mathlib.Core.Bool.{cond};
-use crate::fault::PageFault;
+ghost use mathlib.Core.Path.{_≡_};
+use faults::PageFault;
 
 mod calls;
 
@@ -19,6 +20,15 @@ pub struct Page<'a> {
     ghost fits: { end + cond begun (5 + 8 * room) 0 ≤ length (now bytes) },
     ghost few: { room ≤ 25 },
     ghost less: { put ≤ room },
+}
+
+impl Page<'_> {
+    // Where the lines that were closed end.
+    pub fn end(&self) -> usize
+        ensures { λ r. ⌜ r ≡ now (self .entry) .end ⌝ }
+    {
+        self.end
+    }
 }
 
 // What is owed for a begun line. It cannot be copied or let go: closing the line, or giving it up, takes it.

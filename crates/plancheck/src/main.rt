@@ -1,6 +1,6 @@
 // Checks plans against equations: reads pairs of lines, an equation and a plan, from standard input to its end, makes
 // the costing call on each, and writes in plain words what it read and what came of it.
-use lines::cutting::Cutter;
+use input::Cutter;
 use std::io;
 use std::io::BufRead;
 use std::io::BufReader;
@@ -22,12 +22,21 @@ struct Pairs {
 
 impl Pairs {
     fn new() -> Pairs {
-        Pairs { equation: Cutter::new(), plan: Cutter::new(), equation_read: false, lines: 0 }
+        Pairs {
+            equation: Cutter::new(),
+            plan: Cutter::new(),
+            equation_read: false,
+            lines: 0,
+        }
     }
 
     // Hands a chunk's bytes on up to the end of a line; answers where the chunk goes on.
     fn feed(&mut self, chunk: &[u8]) -> Option<usize> {
-        if self.equation_read { self.plan.feed(chunk) } else { self.equation.feed(chunk) }
+        if self.equation_read {
+            self.plan.feed(chunk)
+        } else {
+            self.equation.feed(chunk)
+        }
     }
 
     // A line is complete; with a plan's line the pair is.
@@ -63,7 +72,11 @@ impl Pairs {
     // The input is at its end: a last line that lacks its line feed counts if it has a byte, and an equation that has
     // no plan is reported.
     fn finish<W: Write>(&mut self, out: &mut W) -> io::Result<()> {
-        let open = if self.equation_read { self.plan.line().len() } else { self.equation.line().len() };
+        let open = if self.equation_read {
+            self.plan.line().len()
+        } else {
+            self.equation.line().len()
+        };
         if open > 0 {
             self.end_line(out)?;
         }

@@ -4,7 +4,7 @@ use costing::PLAN;
 use costing::Refusal;
 use costing::costing_meets;
 use costing::meets;
-use lines::fault::LineFault;
+use faults::LineFault;
 use lines::reading::MOST_NUMBERS;
 use lines::reading::read_line;
 use std::io;
@@ -32,7 +32,10 @@ pub fn pair<W: Write>(out: &mut W, line: u64, equation: &[u8], plan: &[u8]) -> i
 pub fn torn<W: Write>(out: &mut W, line: u64, equation: &[u8]) -> io::Result<()> {
     writeln!(out, "line {line}")?;
     equation_line(out, equation)?;
-    writeln!(out, "  no answer: the input ends before the equation's plan")
+    writeln!(
+        out,
+        "  no answer: the input ends before the equation's plan"
+    )
 }
 
 // Why there is no answer.
@@ -40,8 +43,14 @@ fn refused<W: Write>(out: &mut W, refusal: Refusal) -> io::Result<()> {
     match refusal {
         Refusal::Equation(fault) => line_refused(out, "equation", fault),
         Refusal::Plan(fault) => line_refused(out, "plan", fault),
-        Refusal::Count => writeln!(out, "refused, the plan has not 1 to 24 numbers, or the equation has not one more"),
-        Refusal::Overflow => writeln!(out, "refused, a running sum is not within -2147483647 to 2147483647"),
+        Refusal::Count => writeln!(
+            out,
+            "refused, the plan has not 1 to 24 numbers, or the equation has not one more"
+        ),
+        Refusal::Overflow => writeln!(
+            out,
+            "refused, a running sum is not within -2147483647 to 2147483647"
+        ),
     }
 }
 
@@ -130,7 +139,11 @@ fn plan_words<W: Write>(out: &mut W, words: &[i32], count: usize) -> io::Result<
 fn unread<W: Write>(out: &mut W, bytes: &[u8]) -> io::Result<()> {
     write!(out, "not read: \"")?;
     for b in bytes.iter().take(SHOWN).copied() {
-        let c = if b >= 0x20 && b < 0x7f { b as char } else { '.' };
+        let c = if b >= 0x20 && b < 0x7f {
+            b as char
+        } else {
+            '.'
+        };
         write!(out, "{c}")?;
     }
     if bytes.len() > SHOWN {

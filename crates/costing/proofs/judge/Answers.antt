@@ -31,11 +31,11 @@ balance-requires c κs =
     let n = length plan in
     let k : n - 0 ≡ n = omega arith in
     let f : SFits w32 (getD ws n (pos 0)) = search needs in
-    let h = find-none is-lowest 0 ws (c .pre .0) in
-    ( ap (λ (m : ℕ). length (take m ws)) k ∙ length-take-le n ws (omega arith)
-    , ap is-lowest (toZ-ofZ w32 (getD ws n (pos 0)) f) ∙ all-getD (λ w. is-lowest w ≡ false) ws n (pos 0) (omega arith) h
-    , none-find is-lowest 0 (take (n - 0) ws) (all-take (λ w. is-lowest w ≡ false) (n - 0) ws h)
-    , c .pre .1
+    let h = find-none is-lowest 0 ws (c .pre .0) in (
+      ap (λ (m : ℕ). length (take m ws)) k ∙ length-take-le n ws (omega arith),
+      ap is-lowest (toZ-ofZ w32 (getD ws n (pos 0)) f) ∙ all-getD (λ w. is-lowest w ≡ false) ws n (pos 0) (omega arith) h,
+      none-find is-lowest 0 (take (n - 0) ws) (all-take (λ w. is-lowest w ≡ false) (n - 0) ws h),
+      c .pre .1,
     )
 
 pub returns-in-Some : need.returns-in-Some
@@ -46,7 +46,7 @@ returns-in-Some c =
     let k : n - 0 ≡ n = omega arith in
     let f : SFits w32 (getD ws n (pos 0)) = search needs in
     let b : c .balance .result ≡ balance-of (equation-of n ws) plan
-          = c .balance .ensures ∙ (λ j. running (fitted (negℤ (toZ-ofZ w32 (getD ws n (pos 0)) f j))) (take (k j) ws) plan) in
+    = c .balance .ensures ∙ (λ j. running (fitted (negℤ (toZ-ofZ w32 (getD ws n (pos 0)) f j))) (take (k j) ws) plan) in
     let t = fit (length ws) n (omega arith) (omega arith) (omega arith) in
     ap Ok (c .is-zero .ensures) ∙ sym (judgement-is ws plan (Some (c .in-Some .sum)) t (sym b ∙ c .in-Some .is))
 
@@ -58,6 +58,6 @@ returns-in-None c =
     let k : n - 0 ≡ n = omega arith in
     let f : SFits w32 (getD ws n (pos 0)) = search needs in
     let b : c .balance .result ≡ balance-of (equation-of n ws) plan
-          = c .balance .ensures ∙ (λ j. running (fitted (negℤ (toZ-ofZ w32 (getD ws n (pos 0)) f j))) (take (k j) ws) plan) in
+    = c .balance .ensures ∙ (λ j. running (fitted (negℤ (toZ-ofZ w32 (getD ws n (pos 0)) f j))) (take (k j) ws) plan) in
     let t = fit (length ws) n (omega arith) (omega arith) (omega arith) in
     sym (judgement-is ws plan None t (sym b ∙ c .in-None .is))

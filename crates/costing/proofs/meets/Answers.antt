@@ -8,7 +8,7 @@ use lib.ListN.{take}
 use Rattle.std.specs.declared.option.Option.{Option}
 use Rattle.std.specs.declared.option.Option.the-variants.{Some, None}
 use Rattle.std.specs.declared.result.Result.{Result}
-use Rattle.lines.specs.declared.fault.LineFault.{LineFault}
+use Rattle.faults.specs.declared.LineFault.{LineFault}
 use Rattle.lines.specs.declared.reading.Line.{Line}
 use Rattle.lines.specs.Hex.{find}
 use Rattle.lines.specs.Line.{numbers, refusal, is-lowest, line-of, words-left}

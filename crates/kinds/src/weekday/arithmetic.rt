@@ -10,7 +10,9 @@ use crate::kind::Kind;
 fn reduce(n: u32) -> Weekday
     ensures { λ r. ⌜ r ≡ day n ⌝ }
 {
-    Weekday { value: (n % 7) as u8 }
+    Weekday {
+        value: (n % 7) as u8,
+    }
 }
 
 // The fifth power, which is the inverse modulo 7 of each number but 0.
@@ -72,7 +74,7 @@ pub impl Kind for Weekday as WeekdayKind {
     }
 
     fn smaller(self, other: Weekday) -> bool {
-        self.value == 0 && other.value != 0
+        other.value != 0 && self.value == 0
     }
 
     fn quotient(self, d: Weekday) -> Option<Weekday> {

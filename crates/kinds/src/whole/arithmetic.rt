@@ -90,11 +90,8 @@ pub impl Kind for Whole as WholeKind {
     }
 
     fn smaller(self, other: Whole) -> bool {
-        self.value.unsigned_abs() < other.value.unsigned_abs()
-    }
-
-    fn is_zero(self) -> bool {
-        self.value == 0
+        let size = self.value.unsigned_abs();
+        size < other.value.unsigned_abs()
     }
 
     fn quotient(self, d: Whole) -> Option<Whole> {
@@ -105,9 +102,6 @@ pub impl Kind for Whole as WholeKind {
     }
 
     fn unit(self) -> Whole {
-        if self.value < 0 {
-            return whole(-1);
-        }
-        whole(1)
+        if self.value < 0 { whole(-1) } else { whole(1) }
     }
 }

@@ -9,7 +9,7 @@ ghost use Rattle.lines.specs.Page.{over, zeroed, model, empty-page, with-bytes
 use super::LineToken;
 use super::Owed;
 use super::Page;
-use crate::fault::PageFault;
+use faults::PageFault;
 use crate::hex::byte_digits;
 use crate::hex::word_digits;
 
@@ -19,14 +19,13 @@ impl<'a> Page<'a> {
         ensures held { λ r. ⌜ name (r .bytes) ≡ name (bytes .entry) ⌝ }
         ensures model { λ r. ⌜ model r ≡ empty-page (now (bytes .entry)) ⌝ }
     {
-        Page { bytes, end: 0, begun: false, room: 0, put: 0 }
-    }
-
-    // Where the lines that were closed end.
-    pub fn end(&self) -> usize
-        ensures { λ r. ⌜ r ≡ now (self .entry) .end ⌝ }
-    {
-        self.end
+        Page {
+            bytes,
+            end: 0,
+            begun: false,
+            room: 0,
+            put: 0,
+        }
     }
 
     // Puts the bytes s from `at` on.
@@ -101,7 +100,10 @@ impl<'a> Page<'a> {
         ensures cases { λ r. ⌜ Cases r (λ _. (end-refusal (model (now (self .entry))) ≡ None) × (model (now (self .exit)) ≡ closed (model (now (self .entry))))) (λ owed. (end-refusal (model (now (self .entry))) ≡ Some (owed .fault)) × (model (now (self .exit)) ≡ model (now (self .entry)))) ⌝ }
     {
         if !self.begun {
-            return Err(Owed { token, fault: PageFault::NoLine });
+            return Err(Owed {
+                token,
+                fault: PageFault::NoLine,
+            });
         }
         let LineToken { own: _ } = token;
         let end = self.end;
@@ -121,7 +123,10 @@ impl<'a> Page<'a> {
         ensures cases { λ r. ⌜ Cases r (λ _. (end-refusal (model (now (self .entry))) ≡ None) × (model (now (self .exit)) ≡ given-up (model (now (self .entry))))) (λ owed. (end-refusal (model (now (self .entry))) ≡ Some (owed .fault)) × (model (now (self .exit)) ≡ model (now (self .entry)))) ⌝ }
     {
         if !self.begun {
-            return Err(Owed { token, fault: PageFault::NoLine });
+            return Err(Owed {
+                token,
+                fault: PageFault::NoLine,
+            });
         }
         let LineToken { own: _ } = token;
         let end = self.end;

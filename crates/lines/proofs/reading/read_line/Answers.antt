@@ -9,7 +9,7 @@ use Rattle.std.specs.declared.option.Option.{Option}
 use Rattle.std.specs.declared.option.Option.the-variants.{Some, None}
 use Rattle.std.specs.declared.result.Result.{Result}
 use Rattle.std.specs.declared.result.Result.the-variants.{Ok, Err}
-use Rattle.lines.specs.declared.fault.LineFault.{LineFault}
+use Rattle.faults.specs.declared.LineFault.{LineFault}
 use Rattle.lines.specs.declared.reading.Line.{Line}
 use Rattle.lines.specs.Line.{line-text, words-of, numbers, refusal, read-refusal, answered, line-of, words-left}
 use Rattle.lines.proofs.Accepting.{accepted, answered-ok, answered-err, enough, written-again}

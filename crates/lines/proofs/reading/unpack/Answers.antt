@@ -28,7 +28,7 @@ loop-k-again c =
     let in-old : 0 + k < length old = omega arith in
     let in-ws : k < length ws = omega arith in
     let v : toZ w32 (ofZ w32 (c .word-at .result)) ≡ getD ws k (pos 0)
-          = toZ-ofZ w32 (c .word-at .result) (record { sfits = c .word-at .ok }) ∙ c .word-at .ensures ∙ sym (number-at n (c .args .bytes .now) k (c .loop-k-test .taken) (pos 0)) in
+    = toZ-ofZ w32 (c .word-at .result) (record { sfits = c .word-at .ok }) ∙ c .word-at .ensures ∙ sym (number-at n (c .args .bytes .now) k (c .loop-k-test .taken) (pos 0)) in
     ap (λ (xs : List ℤ). set xs k (toZ w32 (ofZ w32 (c .word-at .result)))) (c .loop-k .inv)
     ∙ ap (set (paste old 0 ws k) k) v
     ∙ ap (λ (m : ℕ). set (paste old 0 ws k) m (getD ws k (pos 0))) (sym (zero-add k))

@@ -24,13 +24,13 @@ loop-w-again c =
     let e : model (c .put .last .self) ≡ with-word (model (c .loop-w .page)) v = search needs in
     let f : SFits w32 v = search needs in
     let p : model (c .put .last .self) ≡ puts (model (c .begin .last .self)) (take (i + 1) (c .args .words .now))
-          = e ∙ ap (λ (m : Model). with-word m v) (c .loop-w .inv .1) ∙ sym (puts-more (model (c .begin .last .self)) (c .args .words .now) i (c .loop-w-test .taken)) in
-    ( c .put .ensures .held ∙ c .loop-w .inv .0
-    , p
-    , ap (λ (m : Model). m .begun) e ∙ c .loop-w .inv .2
-    , ap (λ (m : Model). m .put) e ∙ ap (λ (n : ℕ). n + 1) (c .loop-w .inv .3)
-    , ap (λ (m : Model). m .room) e ∙ c .loop-w .inv .4
-    , all-more (SFits w32) (c .args .words .now) i (pos 0) (c .loop-w-test .taken) (c .loop-w .inv .5) f
+    = e ∙ ap (λ (m : Model). with-word m v) (c .loop-w .inv .1) ∙ sym (puts-more (model (c .begin .last .self)) (c .args .words .now) i (c .loop-w-test .taken)) in (
+      c .put .ensures .held ∙ c .loop-w .inv .0,
+      p,
+      ap (λ (m : Model). m .begun) e ∙ c .loop-w .inv .2,
+      ap (λ (m : Model). m .put) e ∙ ap (λ (n : ℕ). n + 1) (c .loop-w .inv .3),
+      ap (λ (m : Model). m .room) e ∙ c .loop-w .inv .4,
+      all-more (SFits w32) (c .args .words .now) i (pos 0) (c .loop-w-test .taken) (c .loop-w .inv .5) f,
     )
 
 pub returns : need.returns
@@ -42,7 +42,7 @@ returns c =
     let b = begins m (length ws) (m1 .0) in
     let t = take-all (c .loop-w .w-index) ws (c .loop-w-test .left) in
     let p : model (c .loop-w .page) ≡ puts (began m frame (length ws)) ws
-          = c .loop-w .inv .1 ∙ ap (puts (model (c .begin .last .self))) t ∙ ap (λ (x : Model). puts x ws) (m1 .1) in
+    = c .loop-w .inv .1 ∙ ap (puts (model (c .begin .last .self))) t ∙ ap (λ (x : Model). puts x ws) (m1 .1) in
     let f : All (SFits w32) ws = subst (All (SFits w32)) t (c .loop-w .inv .5) in
     record {
       held = c .close .ensures .held ∙ c .loop-w .inv .0 ∙ c .begin .ensures .held;

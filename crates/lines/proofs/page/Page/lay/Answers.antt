@@ -22,10 +22,10 @@ loop-i-again c =
     let i = c .loop-i .i in
     let in-d : at + i < length d = omega arith in
     let in-s : i < length s = omega arith in
-    let v = getD s i 0 in
-    ( c .loop-i .inv .0
-    , ap (λ (m : Model). with-bytes m (set (m .bytes) (at + i) v)) (c .loop-i .inv .1) ∙ ap (with-bytes (model (c .args .self .now))) (paste-more d at s i 0 in-d in-s)
-    , length-set (now (c .loop-i .self .bytes)) (at + i) v ∙ c .loop-i .inv .2
+    let v = getD s i 0 in (
+      c .loop-i .inv .0,
+      ap (λ (m : Model). with-bytes m (set (m .bytes) (at + i) v)) (c .loop-i .inv .1) ∙ ap (with-bytes (model (c .args .self .now))) (paste-more d at s i 0 in-d in-s),
+      length-set (now (c .loop-i .self .bytes)) (at + i) v ∙ c .loop-i .inv .2,
     )
 
 pub returns : need.returns

@@ -19,10 +19,10 @@ loop-i-again c =
     let d = now (c .args .self .now .bytes) in
     let at = c .args .at in
     let i = c .loop-i .i in
-    let in-d : at + i < length d = omega arith in
-    ( c .loop-i .inv .0
-    , ap (λ (m : Model). with-bytes m (set (m .bytes) (at + i) 0)) (c .loop-i .inv .1) ∙ ap (with-bytes (model (c .args .self .now))) (fill-from-more d at i 0 in-d)
-    , length-set (now (c .loop-i .self .bytes)) (at + i) 0 ∙ c .loop-i .inv .2
+    let in-d : at + i < length d = omega arith in (
+      c .loop-i .inv .0,
+      ap (λ (m : Model). with-bytes m (set (m .bytes) (at + i) 0)) (c .loop-i .inv .1) ∙ ap (with-bytes (model (c .args .self .now))) (fill-from-more d at i 0 in-d),
+      length-set (now (c .loop-i .self .bytes)) (at + i) 0 ∙ c .loop-i .inv .2,
     )
 
 pub returns : need.returns
