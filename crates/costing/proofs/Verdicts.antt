@@ -5,7 +5,7 @@ use mathlib.Core.Bool.{Bool, true, false, cond, _&&_}
 use mathlib.Core.List.{List, [], _∷_}
 use native.Mathlib.Omega.{arith}
 use borrow.Author.Differences.{ints}
-use lib.Dec.{eqb, ltb}
+use lib.Dec.{eqb, ltb, lit≤}
 use lib.IntN.{ℤ, pos, negℤ, natAbs, _+ℤ_}
 use lib.ListN.{length}
 use Rattle.std.proofs.shelf.Tests.{cond-true, lt-ltb, eq-eqb, and-from, eqb-true, eqb-false}
@@ -17,11 +17,15 @@ use Rattle.kinds.specs.declared.whole.Whole.{Whole}
 use Rattle.kinds.specs.Equation.{Equation, dot, Meets}
 use Rattle.kinds.proofs.Sames.{same-eq}
 use Rattle.kinds.proofs.Wholes.{equal, abs-zero}
+use Rattle.faults.specs.declared.NumberFault.{NumberFault}
+use Rattle.faults.specs.declared.NumberFault.the-variants.{Lowest, Modulus, Unknowns, ListNumber, NotAdmitted}
 use Rattle.faults.specs.declared.LineFault.{LineFault}
+use Rattle.faults.specs.declared.LineFault.the-variants.{FewWords, Length, NoDigit, Size, Frame, Count as LineCount, Number}
+use Rattle.faults.specs.Faults.{number-fault, line-fault}
 use Rattle.lines.specs.Line.{numbers, refusal}
 use Rattle.costing.specs.declared.Refusal.{Refusal}
 use Rattle.costing.specs.declared.Refusal.the-variants.{Equation as InEquation, Plan as InPlan, Count, Overflow}
-use Rattle.costing.specs.Costing.{equation-of, running, balance-of, counts-fit, judged, judgement, unless, verdict, Lines-meet}
+use Rattle.costing.specs.Costing.{equation-of, running, balance-of, counts-fit, judged, judgement, unless, verdict, refusal-number, answer, Lines-meet, Means}
 use Rattle.costing.proofs.Sums.{running-from}
 
 -- counts that fit
@@ -51,7 +55,7 @@ summed e p b v =
     let k = judged-ok (balance-of q (numbers p)) b (counted-ok (counts-fit (length (numbers e)) (length (numbers p))) (judged (balance-of q (numbers p))) b j) in
     (k .0, (running-from (negℤ (q .right)) (q .coefficients) (numbers p) (k .0) (k .1 .0), k .1 .1))
 
-pub met : (e p : List ℕ) → verdict e p ≡ Ok true → Lines-meet e p
+met : (e p : List ℕ) → verdict e p ≡ Ok true → Lines-meet e p
 met e p v =
     let q = equation-of (length (numbers p)) (numbers e) in
     let k = summed e p true v in
@@ -62,7 +66,7 @@ met e p v =
     zero-sum : (a d : ℤ) → negℤ a +ℤ d ≡ pos 0 → d ≡ a
     zero-sum a d h = omega (arith, ints)
 
-pub unmet : (e p : List ℕ) → verdict e p ≡ Ok false → Lines-meet e p → ⊥
+unmet : (e p : List ℕ) → verdict e p ≡ Ok false → Lines-meet e p → ⊥
 unmet e p v m =
     let q = equation-of (length (numbers p)) (numbers e) in
     let k = summed e p false v in
@@ -71,3 +75,40 @@ unmet e p v m =
   where
     sum-zero : (a d : ℤ) → d ≡ a → negℤ a +ℤ d ≡ pos 0
     sum-zero a d h = omega (arith, ints)
+
+-- a refusal's number is 2 or more
+number-large : (f : NumberFault) → 2 ≤ number-fault f
+number-large Lowest = lit≤ tt
+number-large Modulus = lit≤ tt
+number-large Unknowns = lit≤ tt
+number-large ListNumber = lit≤ tt
+number-large (NotAdmitted i) = lit≤ tt
+
+line-large : (f : LineFault) → 2 ≤ line-fault f
+line-large FewWords = lit≤ tt
+line-large Length = lit≤ tt
+line-large (NoDigit p) = lit≤ tt
+line-large Size = lit≤ tt
+line-large Frame = lit≤ tt
+line-large LineCount = lit≤ tt
+line-large (Number f p) = number-large f
+
+refusal-large : (f : Refusal) → 2 ≤ refusal-number f
+refusal-large (InEquation f) = line-large f
+refusal-large (InPlan f) = line-large f
+refusal-large Count = lit≤ tt
+refusal-large Overflow = lit≤ tt
+
+-- the number of an answer says which it is
+answer-one : (o : Result Bool Refusal) → answer o ≡ pos 1 → o ≡ Ok true
+answer-one (Ok true) e = refl
+answer-one (Ok false) e = let z : _≡_ {A = ℕ} 0 1 = cc in absurd (omega arith)
+answer-one (Err f) e = let z : refusal-number f ≡ 1 = cc in let l = refusal-large f in absurd (omega arith)
+
+answer-zero : (o : Result Bool Refusal) → answer o ≡ pos 0 → o ≡ Ok false
+answer-zero (Ok false) e = refl
+answer-zero (Ok true) e = let z : _≡_ {A = ℕ} 1 0 = cc in absurd (omega arith)
+answer-zero (Err f) e = let z : refusal-number f ≡ 0 = cc in let l = refusal-large f in absurd (omega arith)
+
+pub means : (e p : List ℕ) (r : ℤ) → r ≡ answer (verdict e p) → Means r e p
+means e p r a = record { yes-meets = λ h. met e p (answer-one (verdict e p) (sym a ∙ h)); no-meets = λ h. unmet e p (answer-zero (verdict e p) (sym a ∙ h)) }

@@ -3,16 +3,18 @@ ghost use mathlib.Core.Path.{_≡_};
 ghost use mathlib.Core.Bool.{false};
 ghost use Prim.Native.Nat.{_+_, _≤_};
 ghost use lib.IntN.{pos, negℤ};
-ghost use lib.ListN.{length};
-ghost use Rattle.std.specs.declared.option.Option.the-variants.{None};
+ghost use lib.ListN.{length, take};
+ghost use mathlib.Core.List.{[], _∷_};
+ghost use Rattle.std.specs.Results.{Cases};
+ghost use Rattle.std.specs.declared.option.Option.the-variants.{None, Some};
 ghost use Rattle.kinds.specs.Whole.{fitted};
 ghost use Rattle.lines.specs.Hex.{find};
-ghost use Rattle.lines.specs.Line.{is-lowest};
+ghost use Rattle.lines.specs.Line.{is-lowest, numbers, refusal};
 ghost use Rattle.costing.specs.Costing.{running, judgement, verdict, refusal-number, answer, Means};
+use faults::LineFault;
 use kinds::kind::Kind;
 use kinds::whole::Whole;
 use kinds::whole::arithmetic::WholeKind;
-use faults::LineFault;
 use lines::reading::MOST_NUMBERS;
 use lines::reading::read_line;
 
@@ -89,23 +91,41 @@ fn judge(equation: &[i32], plan: &[i32]) -> Result<bool, Refusal>
     }
 }
 
+// Reads a line of the frame that is wanted; answers how many numbers it has.
+fn numbers_of(bytes: &[u8], frame: u8, words: &mut [i32; MOST_NUMBERS]) -> Result<usize, LineFault>
+    ensures cases { λ r. ⌜ Cases r (λ n. (refusal (frame ∷ []) (now (bytes .entry)) ≡ None) × (n ≤ 25) × (take n (now (words .exit)) ≡ numbers (now (bytes .entry))) × (find is-lowest (numbers (now (bytes .entry))) ≡ None)) (λ fault. refusal (frame ∷ []) (now (bytes .entry)) ≡ Some fault) ⌝ }
+{
+    match read_line(bytes, &[frame], words) {
+        Ok(line) => Ok(line.count),
+        Err(fault) => Err(fault),
+    }
+}
+
 // Whether the plan of the second line meets the equation of the first, in whole numbers.
 pub fn meets(equation: &[u8], plan: &[u8]) -> Result<bool, Refusal>
-    ensures { λ r. ⌜ r ≡ verdict (now (equation .entry)) (now (plan .entry)) ⌝ }
+    ensures value { λ r. ⌜ r ≡ verdict (now (equation .entry)) (now (plan .entry)) ⌝ }
 {
     let mut coefficients = [0i32; MOST_NUMBERS];
     let mut entries = [0i32; MOST_NUMBERS];
-    let first = match read_line(equation, &[EQUATION], &mut coefficients) {
-        Ok(line) => line,
+    let m = match numbers_of(equation, EQUATION, &mut coefficients) {
+        Ok(m) => m,
         Err(fault) => return Err(Refusal::Equation(fault)),
     };
-    let second = match read_line(plan, &[PLAN], &mut entries) {
-        Ok(line) => line,
+    let n = match numbers_of(plan, PLAN, &mut entries) {
+        Ok(n) => n,
         Err(fault) => return Err(Refusal::Plan(fault)),
     };
-    let m = first.count;
-    let n = second.count;
     judge(&coefficients[0..m], &entries[0..n])
+}
+
+// The answer as one number.
+fn answer_of(verdict: Result<bool, Refusal>) -> i32
+    ensures { λ r. ⌜ r ≡ answer verdict ⌝ }
+{
+    match verdict {
+        Ok(met) => { if met { 1 } else { 0 } }
+        Err(refusal) => refusal.number() as i32,
+    }
 }
 
 // The same for C: 1 where the plan meets the equation, 0 where it does not, otherwise the refusal's number.
@@ -114,8 +134,5 @@ pub extern "C" fn costing_meets(equation: &[u8], plan: &[u8]) -> i32
     ensures value { λ r. ⌜ r ≡ answer (verdict (now (equation .entry)) (now (plan .entry))) ⌝ }
     ensures means { λ r. ⌜ Means r (now (equation .entry)) (now (plan .entry)) ⌝ }
 {
-    match meets(equation, plan) {
-        Ok(met) => { if met { 1 } else { 0 } }
-        Err(refusal) => refusal.number() as i32,
-    }
+    answer_of(meets(equation, plan))
 }

@@ -85,10 +85,10 @@ read-ok lent known bytes line h e = let a = answered-ok (read-refusal lent known
 pub read-err : (lent : ℕ) (known bytes : List ℕ) (f : LineFault) → 25 ≤ lent → read-of lent known bytes ≡ Err f → refusal known bytes ≡ Some f
 read-err lent known bytes f h e = sym (enough lent known bytes h) ∙ answered-err (read-refusal lent known bytes) (line-of bytes) f e
 
--- the words of a line that was accepted, and then what they held
-pub words-kept : (known bytes : List ℕ) (old : List ℤ) → refusal known bytes ≡ None → take (count-of bytes) (words-left (refusal known bytes) bytes old) ≡ numbers bytes
-words-kept known bytes old e =
-    ap (λ (o : Option LineFault). take (count-of bytes) (words-left o bytes old)) e
+-- the first words after a line was accepted
+pub words-read : (lent : ℕ) (known bytes : List ℕ) (old : List ℤ) → 25 ≤ lent → refusal known bytes ≡ None → take (count-of bytes) (words-left (read-refusal lent known bytes) bytes old) ≡ numbers bytes
+words-read lent known bytes old h e =
+    ap (λ (o : Option LineFault). take (count-of bytes) (words-left o bytes old)) (enough lent known bytes h ∙ e)
     ∙ take-at (numbers bytes) (drop (count-of bytes) old) (count-of bytes) (length-words-of (count-of bytes) (drop 4 bytes))
 
 -- words that were read are written again

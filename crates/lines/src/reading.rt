@@ -7,11 +7,11 @@ ghost use Rattle.std.specs.Options.{Cases as BySome};
 ghost use Rattle.std.specs.Results.{Cases};
 ghost use Rattle.lines.specs.Hex.{Hex, find, number-of, word-of};
 ghost use Rattle.lines.specs.Line.{has, words-of, is-lowest, line-text, numbers, refusal, answered, line-of, read-refusal, read-of, words-left};
-use faults::LineFault;
-use faults::NumberFault;
 use crate::hex::first_no_digit;
 use crate::hex::value;
 use crate::hex::word;
+use faults::LineFault;
+use faults::NumberFault;
 
 // As many numbers as a line may have.
 pub const MOST_NUMBERS: usize = 25;

@@ -7,8 +7,8 @@ ghost use Rattle.std.specs.Results.{Cases};
 ghost use Rattle.std.specs.declared.option.Option.the-variants.{Some, None};
 ghost use Rattle.lines.specs.Line.{line-text, Reads-back};
 ghost use Rattle.lines.specs.Page.{model, begin-refusal, with-text};
-use faults::PageFault;
 use crate::page::Page;
+use faults::PageFault;
 
 // A whole line at the page's end, with its line feed. Reading it back gives the same frame and numbers.
 pub fn write_line(page: &mut Page, frame: u8, words: &[i32]) -> Result<(), PageFault>

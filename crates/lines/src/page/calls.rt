@@ -9,9 +9,9 @@ ghost use Rattle.lines.specs.Page.{over, zeroed, model, empty-page, with-bytes
 use super::LineToken;
 use super::Owed;
 use super::Page;
-use faults::PageFault;
 use crate::hex::byte_digits;
 use crate::hex::word_digits;
+use faults::PageFault;
 
 impl<'a> Page<'a> {
     // A page with no line yet, over all the lent bytes.
