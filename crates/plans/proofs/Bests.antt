@@ -9,6 +9,7 @@ use lib.Dec.{eqb, ltb}
 use Rattle.std.specs.declared.option.Option.{Option}
 use Rattle.std.specs.declared.option.Option.the-variants.{Some, None}
 use Rattle.std.proofs.shelf.Tests.{eq-eqb, ne-eqb, eqb-true, eqb-false, ltb-true, ltb-false, lt-ltb, le-ltb, cond-both, cases-lt}
+use Rattle.std.specs.Options.{Cases}
 use Rattle.plans.specs.Posting.{larger, largest-of}
 
 module _ (f : ℕ → ℕ) (s : ℕ) where
@@ -57,5 +58,10 @@ module _ (f : ℕ → ℕ) (s : ℕ) where
   pub step-keep : (n b : ℕ) (o : Option ℕ) → n ≢ s → o ≡ largest-of f s n → o ≡ Some b → ltb (f b) (f n) ≡ false → Some b ≡ largest-of f s (n + 1)
   step-keep n b o d e k t = sym (step-other n d ∙ ap (larger f n) (sym e ∙ k) ∙ rw t)
 
-  pub some-under : (n b : ℕ) → largest-of f s n ≡ Some b → b < n
-  some-under n b e = best-some n b e .0
+  best-under : (n : ℕ) (o : Option ℕ) → Best n o → Cases o (Unit {0}) (λ b. b < n)
+  best-under n (Some b) w = w .0
+  best-under n None w = tt
+
+  -- the largest is one of those looked at
+  pub largest-under : (n : ℕ) → Cases (largest-of f s n) (Unit {0}) (λ b. b < n)
+  largest-under n = best-under n (largest-of f s n) (best n)

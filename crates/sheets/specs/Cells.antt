@@ -1,0 +1,65 @@
+-- The cells of a sheet: what they hold, and where. Assumes nothing.
+use Prim.Native.Nat.{ℕ, zero, suc, _+_, _-_, _*_}
+use mathlib.Core.List.{List, [], _∷_, _++_, map}
+use lib.ListN.{length, getD, take, drop, replicate}
+use Rattle.std.specs.shelf.Lists.{joined}
+use Rattle.std.specs.declared.option.Option.{Option}
+use Rattle.std.specs.declared.option.Option.the-variants.{Some, None}
+use Rattle.kinds.specs.Kind.{Arithmetic}
+use Rattle.plans.specs.Sheet.{Contents}
+
+-- how many cells a sheet of n unknowns needs: those for the fixed plan and the moves, and the spare ones
+abbrev pub main-cells : ℕ → ℕ
+main-cells n = n * (n + 1)
+
+abbrev pub spare-cells : ℕ → ℕ
+spare-cells n = (n + 1) * (n + 1)
+
+abbrev pub needed : ℕ → ℕ
+needed n = main-cells n + spare-cells n
+
+-- n elements from place `from` on
+abbrev pub part : {X : Type 0} → ℕ → ℕ → List X → List X
+part from n xs = take n (drop from xs)
+
+-- k parts of n elements each
+abbrev pub parts : {X : Type 0} → ℕ → ℕ → List X → List (List X)
+parts zero n xs = []
+parts (suc k) n xs = take n xs ∷ parts k n (drop n xs)
+
+module _ {N C : Type 0} (a : Arithmetic N C) where
+  abbrev pub or-zero : Option N → N
+  or-zero (Some x) = x
+  or-zero None = a .zero
+
+  -- the number in a cell; a cell that fails its check counts as zero
+  abbrev pub number : C → N
+  number cell = or-zero (a .from-cell cell)
+
+  abbrev pub numbers : List C → List N
+  numbers = map number
+
+  -- cells that hold numbers
+  abbrev pub held : List N → List C
+  held = map (a .to-cell)
+
+  abbrev pub zero-cells : ℕ → List C
+  zero-cells n = replicate n (a .to-cell (a .zero))
+
+  abbrev pub number-at : List C → ℕ → N
+  number-at cells i = number (getD cells i (a .to-cell (a .zero)))
+
+  -- the size of the top of column j, the first column having its top in cell `first`
+  abbrev pub top-size : List C → ℕ → ℕ → ℕ → ℕ
+  top-size cells first height j = a .size (number-at cells (first + j * height))
+
+  -- what the cells of a sheet of n unknowns and k moves hold: the fixed plan, and then the moves in order
+  abbrev pub contents-in : ℕ → ℕ → List C → Contents N
+  contents-in n k cells = record { fixed = numbers (take n cells); moves = map numbers (parts k n (drop n cells)) }
+
+  -- the cells of a sheet of n unknowns that holds s: what is left of those for the moves, and the spare ones, hold zero,
+  -- and the cells beyond hold what they held
+  abbrev pub sheet-cells : ℕ → Contents N → List C → List C
+  sheet-cells n s cells =
+      held (s .fixed ++ joined (λ move. move) (s .moves))
+      ++ (zero-cells ((n - length (s .moves)) * n) ++ (zero-cells (spare-cells n) ++ drop (needed n) cells))

@@ -1,0 +1,106 @@
+// Work on lent cells, by place: reading and writing one, running sums, and columns of them.
+ghost use mathlib.Core.Path.{_≡_};
+ghost use mathlib.Core.Logic.{_⊎_};
+ghost use mathlib.Core.Bool.{cond};
+ghost use Prim.Native.Nat.{_+_, _*_, _<_, _≤_};
+ghost use lib.ListN.{length, set};
+ghost use Rattle.plans.specs.Posting.{running, adds, largest-of};
+ghost use Rattle.sheets.specs.Combining.{base, Combined};
+ghost use Rattle.sheets.specs.Cells.{part, number-at, numbers, top-size};
+ghost use Rattle.std.specs.Options.{Cases as BySome};
+use kinds::kind::Kind;
+
+// The number in cell i; a cell that fails its check counts as zero.
+pub(crate) fn read<K: Kind>(cells: &[K::Cell], i: usize) -> K
+    requires { ⌜ i < length (now cells) ⌝ }
+    ensures { λ r. ⌜ r ≡ number-at (K·Kind .arith) (now (cells .entry)) i ⌝ }
+{
+    match K::from_cell(cells[i]) {
+        Some(x) => x,
+        None => K::zero(),
+    }
+}
+
+// Puts a number into cell i.
+pub(crate) fn write<K: Kind>(cells: &mut [K::Cell], i: usize, x: K)
+    requires { ⌜ i < length (now cells) ⌝ }
+    ensures { λ _. ⌜ now (cells .exit) ≡ set (now (cells .entry)) i (K·Kind .arith .to-cell x) ⌝ }
+{
+    cells[i] = x.to_cell();
+}
+
+// The running sum from `start` of coefficient × the number in the cells from `from` on.
+pub(crate) fn running_sum<K: Kind>(coefficients: &[K], cells: &[K::Cell], from: usize, start: K) -> Option<K>
+    requires { ⌜ from + length (now coefficients) ≤ length (now cells) ⌝ }
+    ensures { λ r. ⌜ r ≡ running (K·Kind .arith) start (now (coefficients .entry)) (numbers (K·Kind .arith) (part from (length (now (coefficients .entry))) (now (cells .entry)))) ⌝ }
+{
+    let mut sum = start;
+    for i in 0..coefficients.len() {
+        sum = sum.add_product(coefficients[i], read::<K>(cells, from + i))?;
+    }
+    Some(sum)
+}
+
+// The top of column j of `count`, the first of which has its top in cell `first`.
+fn top<K: Kind>(cells: &[K::Cell], first: usize, height: usize, count: usize, j: usize) -> K
+    requires room { ⌜ first + count * height ≤ length (now cells) ⌝ }
+    requires tall { ⌜ 0 < height ⌝ }
+    requires there { ⌜ j < count ⌝ }
+    ensures { λ r. ⌜ r ≡ number-at (K·Kind .arith) (now (cells .entry)) (first + j * height) ⌝ }
+{
+    read::<K>(cells, first + j * height)
+}
+
+// The place, of `count` columns but `skip`, with the largest top by size, the lowest on a tie.
+pub(crate) fn largest<K: Kind>(cells: &[K::Cell], first: usize, height: usize, count: usize, skip: usize) -> Option<usize>
+    requires room { ⌜ first + count * height ≤ length (now cells) ⌝ }
+    requires tall { ⌜ 0 < height ⌝ }
+    ensures value { λ r. ⌜ r ≡ largest-of (top-size (K·Kind .arith) (now (cells .entry)) first height) skip count ⌝ }
+    ensures within { λ r. ⌜ BySome r (Unit {0}) (λ b. b < count) ⌝ }
+{
+    let mut best = None;
+    for j in 0..count {
+        if j != skip {
+            let here = top::<K>(cells, first, height, count, j);
+            match best {
+                None => best = Some(j),
+                Some(b) => {
+                    if top::<K>(cells, first, height, count, b).smaller(here) {
+                        best = Some(j);
+                    }
+                }
+            }
+        }
+    }
+    best
+}
+
+// A step gave a number that cannot be stored.
+#[derive(Clone, Copy)]
+pub(crate) struct Overflow;
+
+// The number in cell i where it is kept, otherwise zero.
+fn kept<K: Kind>(cells: &[K::Cell], i: usize, keep: bool) -> K
+    requires { ⌜ i < length (now cells) ⌝ }
+    ensures { λ r. ⌜ r ≡ cond keep (number-at (K·Kind .arith) (now (cells .entry)) i) (K·Kind .arith .zero) ⌝ }
+{
+    if keep { read::<K>(cells, i) } else { K::zero() }
+}
+
+// Adds q × the numbers from `from` on to those from `to` on, or to zeros where those are not kept, from the top down.
+pub(crate) fn combine<K: Kind>(cells: &mut [K::Cell], to: usize, from: usize, height: usize, q: K, keep: bool) -> Result<(), Overflow>
+    requires to { ⌜ to + height ≤ length (now cells) ⌝ }
+    requires from { ⌜ from + height ≤ length (now cells) ⌝ }
+    requires apart { ⌜ (to ≤ from) ⊎ (from + height ≤ to) ⌝ }
+    ensures { λ r. ⌜ Combined (K·Kind .arith) (adds (K·Kind .arith) (base (K·Kind .arith) keep (numbers (K·Kind .arith) (part to height (now (cells .entry))))) q (numbers (K·Kind .arith) (part from height (now (cells .entry))))) (now (cells .entry)) to r (now (cells .exit)) ⌝ }
+{
+    for i in 0..height {
+        let c = kept::<K>(cells, to + i, keep);
+        let d = read::<K>(cells, from + i);
+        let Some(x) = c.add_product(q, d) else {
+            return Err(Overflow);
+        };
+        write(cells, to + i, x);
+    }
+    Ok(())
+}

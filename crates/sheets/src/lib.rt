@@ -1,0 +1,2 @@
+// Sheets over lent cells: check, opening, posting and showing, for every kind of number alike.
+mod cells;
