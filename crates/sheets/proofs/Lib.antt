@@ -1,3 +1,4 @@
-pub mod Columns
 pub mod Numbers
 pub mod Places
+pub mod Standing
+pub mod Walks

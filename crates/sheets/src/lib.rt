@@ -1,2 +1,3 @@
 // Sheets over lent cells: check, opening, posting and showing, for every kind of number alike.
 mod cells;
+mod columns;

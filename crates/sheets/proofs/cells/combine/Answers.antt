@@ -1,7 +1,7 @@
 use mathlib.Core.Path.{sym, _∙_}
 use mathlib.Core.Logic.{_⊎_}
 use native.Mathlib.Omega.{arith}
-use Rattle.sheets.proofs.Columns.{walk-start, walk-more, walk-stop, walk-end}
+use Rattle.sheets.proofs.Walks.{walk-start, walk-more, walk-stop, walk-end}
 use Rattle.sheets.proofs.cells.combine.Needs as need
 
 pub loop-i-holds : need.loop-i-holds

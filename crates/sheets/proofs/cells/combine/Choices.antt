@@ -1,6 +1,6 @@
 use Rattle.sheets.specs.Cells.{part, numbers}
 use Rattle.sheets.specs.Combining.{base}
-use Rattle.sheets.proofs.Columns.{Walked}
+use Rattle.sheets.proofs.Walks.{Walked}
 use Rattle.sheets.proofs.cells.combine.Given as given
 
 abbrev pub Inv-loop-i : given.InvT-loop-i
