@@ -1,4 +1,5 @@
 pub mod Numbers
 pub mod Places
+pub mod Rounding
 pub mod Standing
 pub mod Walks

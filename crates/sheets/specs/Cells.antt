@@ -49,9 +49,9 @@ module _ {N C : Type 0} (a : Arithmetic N C) where
   abbrev pub number-at : List C → ℕ → N
   number-at cells i = number (getD cells i (a .to-cell (a .zero)))
 
-  -- the size of the top of column j, the first column having its top in cell `first`
+  -- the size of the top of column j, of n entries each, the first having its top in cell `first`
   abbrev pub top-size : List C → ℕ → ℕ → ℕ → ℕ
-  top-size cells first height j = a .size (number-at cells (first + j * height))
+  top-size cells first n j = a .size (number-at cells (first + j * (n + 1)))
 
   -- what the cells of a sheet of n unknowns and k moves hold: the fixed plan, and then the moves in order
   abbrev pub contents-in : ℕ → ℕ → List C → Contents N

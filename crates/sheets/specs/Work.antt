@@ -2,7 +2,7 @@
 use Prim.Native.Nat.{ℕ, _+_, _*_}
 use mathlib.Core.Path.{_≡_}
 use mathlib.Core.List.{List, map}
-use lib.ListN.{length}
+use lib.ListN.{length, take, drop}
 use Rattle.std.specs.Iters.{counting}
 use Rattle.std.specs.declared.option.Option.{Option}
 use Rattle.std.specs.declared.option.Option.the-variants.{Some, None}
@@ -10,7 +10,7 @@ use Rattle.std.specs.declared.result.Result.{Result}
 use Rattle.std.specs.declared.result.Result.the-variants.{Ok, Err}
 use Rattle.kinds.specs.Kind.{Arithmetic}
 use Rattle.lines.specs.Page.{over}
-use Rattle.plans.specs.Posting.{Column, Work}
+use Rattle.plans.specs.Posting.{Column, Work, Turn, stop, again, fail}
 use Rattle.sheets.specs.declared.cells.Overflow.{Overflow}
 use Rattle.sheets.specs.Cells.{part, numbers, number-at}
 
@@ -34,3 +34,25 @@ module _ {N C : Type 0} (a : Arithmetic N C) where
   abbrev pub Came-at : Option (Column N) → ℕ → ℕ → List C → Result Unit Overflow → List C → Type 0
   Came-at o n p before (Ok _) after = (o ≡ Some (column-at after n p)) × Only p (n + 1) before after
   Came-at o n p before (Err _) after = o ≡ None
+
+-- nothing changed but, maybe, h cells from place p on
+pub record Within {C : Type 0} (p h : ℕ) (before after : List C) : Type 0 where
+  pub len : length after ≡ length before
+  pub front : take p after ≡ take p before
+  pub back : drop (p + h) after ≡ drop (p + h) before
+
+module _ {N C : Type 0} (a : Arithmetic N C) where
+  -- the cells that column B at cell p and k moves' columns take
+  abbrev pub work-cells : ℕ → ℕ → ℕ
+  work-cells n k = (n + 1) + k * (n + 1)
+
+  -- what is worked on came, or none came
+  abbrev pub Worked : Option (Work N) → ℕ → ℕ → ℕ → List C → Result Unit Overflow → List C → Type 0
+  Worked o n p k before (Ok _) after = (o ≡ Some (work-at a after n p k)) × Within p (work-cells n k) before after
+  Worked o n p k before (Err _) after = o ≡ None
+
+  -- a turn stopped at a pivot, went on, or failed
+  abbrev pub Turned : Turn N → ℕ → ℕ → ℕ → List C → Result (Option ℕ) Overflow → List C → Type 0
+  Turned t n p k before (Ok (Some l)) after = (t ≡ stop l) × (after ≡ before)
+  Turned t n p k before (Ok None) after = (t ≡ again (work-at a after n p k)) × Within p (work-cells n k) before after
+  Turned t n p k before (Err _) after = t ≡ fail

@@ -41,31 +41,40 @@ pub(crate) fn running_sum<K: Kind>(coefficients: &[K], cells: &[K::Cell], from: 
     Some(sum)
 }
 
-// The top of column j of `count`, the first of which has its top in cell `first`.
-fn top<K: Kind>(cells: &[K::Cell], first: usize, height: usize, count: usize, j: usize) -> K
-    requires room { ⌜ first + count * height ≤ length (now cells) ⌝ }
-    requires tall { ⌜ 0 < height ⌝ }
+// Where column j of `count`, each of a top and n entries, has its top, in `len` cells; the first has it in cell `first`.
+pub(crate) fn place(first: usize, n: usize, count: usize, j: usize, len: usize) -> usize
+    requires room { ⌜ first + count * (n + 1) ≤ len ⌝ }
     requires there { ⌜ j < count ⌝ }
-    ensures { λ r. ⌜ r ≡ number-at (K·Kind .arith) (now (cells .entry)) (first + j * height) ⌝ }
+    ensures value { λ r. ⌜ r ≡ first + j * (n + 1) ⌝ }
+    ensures within { λ r. ⌜ r + (n + 1) ≤ len ⌝ }
 {
-    read::<K>(cells, first + j * height)
+    first + j * (n + 1)
+}
+
+// The top of column j of `count`.
+pub(crate) fn top<K: Kind>(cells: &[K::Cell], first: usize, n: usize, count: usize, j: usize) -> K
+    requires room { ⌜ first + count * (n + 1) ≤ length (now cells) ⌝ }
+    requires there { ⌜ j < count ⌝ }
+    ensures { λ r. ⌜ r ≡ number-at (K·Kind .arith) (now (cells .entry)) (first + j * (n + 1)) ⌝ }
+{
+    let at = place(first, n, count, j, cells.len());
+    read::<K>(cells, at)
 }
 
 // The place, of `count` columns but `skip`, with the largest top by size, the lowest on a tie.
-pub(crate) fn largest<K: Kind>(cells: &[K::Cell], first: usize, height: usize, count: usize, skip: usize) -> Option<usize>
-    requires room { ⌜ first + count * height ≤ length (now cells) ⌝ }
-    requires tall { ⌜ 0 < height ⌝ }
-    ensures value { λ r. ⌜ r ≡ largest-of (top-size (K·Kind .arith) (now (cells .entry)) first height) skip count ⌝ }
+pub(crate) fn largest<K: Kind>(cells: &[K::Cell], first: usize, n: usize, count: usize, skip: usize) -> Option<usize>
+    requires { ⌜ first + count * (n + 1) ≤ length (now cells) ⌝ }
+    ensures value { λ r. ⌜ r ≡ largest-of (top-size (K·Kind .arith) (now (cells .entry)) first n) skip count ⌝ }
     ensures within { λ r. ⌜ BySome r (Unit {0}) (λ b. b < count) ⌝ }
 {
     let mut best = None;
     for j in 0..count {
         if j != skip {
-            let here = top::<K>(cells, first, height, count, j);
+            let here = top::<K>(cells, first, n, count, j);
             match best {
                 None => best = Some(j),
                 Some(b) => {
-                    if top::<K>(cells, first, height, count, b).smaller(here) {
+                    if top::<K>(cells, first, n, count, b).smaller(here) {
                         best = Some(j);
                     }
                 }

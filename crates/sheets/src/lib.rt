@@ -1,3 +1,4 @@
 // Sheets over lent cells: check, opening, posting and showing, for every kind of number alike.
 mod cells;
 mod columns;
+mod rounds;

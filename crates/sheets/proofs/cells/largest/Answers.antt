@@ -12,19 +12,19 @@ use Rattle.sheets.proofs.cells.largest.Needs.{then-j-skip·in-None, then-j-ski
 
 pub top-requires : need.top-requires
 top-requires g c κs =
-    let w = best-some (top-size (g .K·Kind .arith) (c .args .cells .now) (c .args .first) (c .args .height)) (c .args .skip) (c .loop-j .j) (c .in-Some .b) (sym (c .loop-j .inv) ∙ c .in-Some .is) in
+    let w = best-some (top-size (g .K·Kind .arith) (c .args .cells .now) (c .args .first) (c .args .n)) (c .args .skip) (c .loop-j .j) (c .in-Some .b) (sym (c .loop-j .inv) ∙ c .in-Some .is) in
     search needs
 
 pub returns : need.returns
 returns g c =
-    let f = top-size (g .K·Kind .arith) (c .args .cells .now) (c .args .first) (c .args .height) in
+    let f = top-size (g .K·Kind .arith) (c .args .cells .now) (c .args .first) (c .args .n) in
     let e : c .loop-j .j ≡ c .args .count = omega arith in
     let v = c .loop-j .inv ∙ ap (largest-of f (c .args .skip)) e in
     record { value = v; within = subst (λ (o : Option ℕ). Cases o (Unit {0}) (λ b. b < c .args .count)) (sym v) (largest-under f (c .args .skip) (c .args .count)) }
 
 pub loop-j-again : need.loop-j-again
 loop-j-again g c =
-    let f = top-size (g .K·Kind .arith) (c .args .cells .now) (c .args .first) (c .args .height) in
+    let f = top-size (g .K·Kind .arith) (c .args .cells .now) (c .args .first) (c .args .n) in
     let s = c .args .skip in
     let n = c .loop-j .j in
     let b = c .loop-j .best in
