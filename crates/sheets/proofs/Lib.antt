@@ -2,4 +2,5 @@ pub mod Numbers
 pub mod Places
 pub mod Rounding
 pub mod Standing
+pub mod Turning
 pub mod Walks

@@ -1,5 +1,5 @@
 -- The columns that a posting works on, as they stand in cells. Assumes nothing.
-use Prim.Native.Nat.{ℕ, _+_, _*_}
+use Prim.Native.Nat.{ℕ, suc, _+_, _*_, _<_}
 use mathlib.Core.Path.{_≡_}
 use mathlib.Core.List.{List, map}
 use lib.ListN.{length, take, drop}
@@ -10,7 +10,7 @@ use Rattle.std.specs.declared.result.Result.{Result}
 use Rattle.std.specs.declared.result.Result.the-variants.{Ok, Err}
 use Rattle.kinds.specs.Kind.{Arithmetic}
 use Rattle.lines.specs.Page.{over}
-use Rattle.plans.specs.Posting.{Column, Work, Turn, stop, again, fail}
+use Rattle.plans.specs.Posting.{Column, Work, Turn, stop, again, fail, rounds, total-size}
 use Rattle.sheets.specs.declared.cells.Overflow.{Overflow}
 use Rattle.sheets.specs.Cells.{part, numbers, number-at}
 
@@ -56,3 +56,11 @@ module _ {N C : Type 0} (a : Arithmetic N C) where
   Turned t n p k before (Ok (Some l)) after = (t ≡ stop l) × (after ≡ before)
   Turned t n p k before (Ok None) after = (t ≡ again (work-at a after n p k)) × Within p (work-cells n k) before after
   Turned t n p k before (Err _) after = t ≡ fail
+
+  -- the rounds ended at a pivot, or failed
+  abbrev pub rounds-at : List C → ℕ → ℕ → ℕ → Option (ℕ × Work N)
+  rounds-at cells n p k = rounds a (suc (total-size a (columns-at a cells n (p + (n + 1)) k))) (work-at a cells n p k)
+
+  abbrev pub Ended : ℕ → ℕ → ℕ → List C → Result ℕ Overflow → List C → Type 0
+  Ended n p k before (Ok l) after = (rounds-at before n p k ≡ Some (l, work-at a after n p k)) × (l < k) × Within p (work-cells n k) before after
+  Ended n p k before (Err _) after = rounds-at before n p k ≡ None
