@@ -7,13 +7,13 @@ use native.Mathlib.Omega.{arith}
 use native.Mathlib.Nat.{add-zero}
 use mathlib.Core.Bool.{Bool, true, false, cond}
 use lib.ListN.{length, getD, set, take, drop}
-use Rattle.std.proofs.shelf.Lists.{append-assoc, append-nil, length-append, length-map, length-take-le, length-push, take-all, getD-map, getD-append-left, getD-append-right, getD-take, getD-drop, set-at, take-more, drop-more, take-append-drop, map-append}
+use Rattle.std.proofs.shelf.Lists.{append-assoc, append-nil, length-append, length-map, length-take-le, length-push, length-replicate, replicate-more, take-all, getD-map, getD-append-left, getD-append-right, getD-take, getD-drop, set-at, take-more, drop-more, take-append-drop, map-append}
 use Rattle.std.specs.declared.option.Option.{Option}
 use Rattle.std.specs.declared.option.Option.the-variants.{Some, None}
 use Rattle.kinds.specs.Kind.{Arithmetic}
 use Rattle.lines.specs.Page.{over}
 use Rattle.plans.specs.Posting.{then, adds}
-use Rattle.sheets.specs.Cells.{part, number, numbers, held, number-at}
+use Rattle.sheets.specs.Cells.{part, number, numbers, held, number-at, zero-cells}
 use Rattle.sheets.specs.Combining.{base}
 use Rattle.sheets.proofs.Numbers.{length-numbers-part, number-of-part}
 
@@ -178,3 +178,45 @@ module _ {N C : Type 0} (a : Arithmetic N C) (q : N) (keep : Bool) (cells : List
       let tu = take-all i U (let l = length-U in omega arith) in
       let tv = take-all i V (let l = length-V in omega arith) in
       (w .ys, (sym (λ j. adds a (tu j) q (tv j)) ∙ w .sum, w .stand))
+
+-- copying a part, and putting zeros, cell by cell
+module _ {N C : Type 0} (a : Arithmetic N C) (cells : List C) (to : ℕ) where
+  module _ (from n : ℕ) (ht : to + n ≤ length cells) (hf : from + n ≤ length cells) (apart : (to ≤ from) ⊎ (from + n ≤ to)) where
+    abbrev Numbers : List N
+    Numbers = numbers a (part from n cells)
+
+    pub copy-more : (i : ℕ) (left next : List C) (x : N) → i < n → left ≡ over cells to (held a (take i Numbers)) → x ≡ number-at a left (from + i) → next ≡ set left (to + i) (a .to-cell x)
+        → next ≡ over cells to (held a (take (i + 1) Numbers))
+    copy-more i left next x k s r e =
+        let z = a .to-cell (a .zero) in
+        let ln = length-numbers-part a cells from n hf in
+        let l : length (held a (take i Numbers)) ≡ i = length-map (take i Numbers) (a .to-cell) ∙ length-take-le i Numbers (omega arith) in
+        let v : x ≡ getD Numbers i (a .zero)
+              = r
+              ∙ ap (number a) (ap (λ (t : List C). getD t (from + i) z) s ∙ getD-over cells (held a (take i Numbers)) to (from + i) z (omega arith) (⊎-elim (λ b. inr (omega arith)) (λ b. inl (omega arith)) apart))
+              ∙ sym (number-of-part a cells from n i hf k) in
+        let t : take i Numbers ++ x ∷ [] ≡ take (i + 1) Numbers = ap (λ (y : N). take i Numbers ++ y ∷ []) v ∙ sym (take-more Numbers i (a .zero) (omega arith)) in
+        e
+        ∙ ap (λ (y : List C). set y (to + i) (a .to-cell x)) s
+        ∙ ap (λ (m : ℕ). set (over cells to (held a (take i Numbers))) (to + m) (a .to-cell x)) (sym l)
+        ∙ over-push cells (held a (take i Numbers)) to (a .to-cell x) (omega arith)
+        ∙ ap (over cells to) (sym (map-append (a .to-cell) (take i Numbers) (x ∷ [])) ∙ ap (held a) t)
+
+    pub copy-start : cells ≡ over cells to (held a (take 0 Numbers))
+    copy-start = sym (over-nothing cells to)
+
+    pub copy-end : (i : ℕ) (left : List C) → i ≡ n → left ≡ over cells to (held a (take i Numbers)) → left ≡ over cells to (held a Numbers)
+    copy-end i left e s = s ∙ ap (λ (xs : List N). over cells to (held a xs)) (take-all i Numbers (let l = length-numbers-part a cells from n hf in omega arith))
+
+  pub wipe-more : (i : ℕ) (left next : List C) (x : N) → to + i < length cells → left ≡ over cells to (zero-cells a i) → x ≡ a .zero → next ≡ set left (to + i) (a .to-cell x) → next ≡ over cells to (zero-cells a (i + 1))
+  wipe-more i left next x h s ex e =
+      let l = length-replicate i (a .to-cell (a .zero)) in
+      e
+      ∙ ap (λ (y : List C). set y (to + i) (a .to-cell x)) s
+      ∙ ap (λ (y : N). set (over cells to (zero-cells a i)) (to + i) (a .to-cell y)) ex
+      ∙ ap (λ (m : ℕ). set (over cells to (zero-cells a i)) (to + m) (a .to-cell (a .zero))) (sym l)
+      ∙ over-push cells (zero-cells a i) to (a .to-cell (a .zero)) (omega arith)
+      ∙ ap (over cells to) (replicate-more i (a .to-cell (a .zero)))
+
+  pub wipe-start : cells ≡ over cells to (zero-cells a 0)
+  wipe-start = sym (over-nothing cells to)

@@ -6,7 +6,8 @@ ghost use Prim.Native.Nat.{_+_, _*_, _<_, _≤_};
 ghost use lib.ListN.{length, set};
 ghost use Rattle.plans.specs.Posting.{running, adds, largest-of};
 ghost use Rattle.sheets.specs.Combining.{base, Combined};
-ghost use Rattle.sheets.specs.Cells.{part, number-at, numbers, top-size};
+ghost use Rattle.sheets.specs.Cells.{part, number-at, numbers, held, zero-cells, top-size};
+ghost use Rattle.lines.specs.Page.{over};
 ghost use Rattle.std.specs.Options.{Cases as BySome};
 use kinds::kind::Kind;
 
@@ -112,4 +113,27 @@ pub(crate) fn combine<K: Kind>(cells: &mut [K::Cell], to: usize, from: usize, he
         write(cells, to + i, x);
     }
     Ok(())
+}
+
+// Copies n numbers from the cells from `from` on to those from `to` on.
+pub(crate) fn copy<K: Kind>(cells: &mut [K::Cell], to: usize, from: usize, n: usize)
+    requires to { ⌜ to + n ≤ length (now cells) ⌝ }
+    requires from { ⌜ from + n ≤ length (now cells) ⌝ }
+    requires apart { ⌜ (to ≤ from) ⊎ (from + n ≤ to) ⌝ }
+    ensures { λ _. ⌜ now (cells .exit) ≡ over (now (cells .entry)) to (held (K·Kind .arith) (numbers (K·Kind .arith) (part from n (now (cells .entry))))) ⌝ }
+{
+    for i in 0..n {
+        let x = read::<K>(cells, from + i);
+        write(cells, to + i, x);
+    }
+}
+
+// Puts zero into n cells from `from` on.
+pub(crate) fn wipe<K: Kind>(cells: &mut [K::Cell], from: usize, n: usize)
+    requires { ⌜ from + n ≤ length (now cells) ⌝ }
+    ensures { λ _. ⌜ now (cells .exit) ≡ over (now (cells .entry)) from (zero-cells (K·Kind .arith) n) ⌝ }
+{
+    for i in 0..n {
+        write(cells, from + i, K::zero());
+    }
 }
