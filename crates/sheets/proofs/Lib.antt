@@ -1,3 +1,4 @@
+pub mod Laying
 pub mod Numbers
 pub mod Places
 pub mod Rounding

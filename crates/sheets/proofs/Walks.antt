@@ -30,7 +30,7 @@ getD-over cells s to p d h (inr k) =
     ∙ ap (λ (n : ℕ). getD cells n d) (omega arith)
 
 -- nothing put over
-over-nothing : {X : Type 0} (cells : List X) (to : ℕ) → over cells to [] ≡ cells
+pub over-nothing : {X : Type 0} (cells : List X) (to : ℕ) → over cells to [] ≡ cells
 over-nothing {X} cells to = ap (λ (n : ℕ). take to cells ++ drop n cells) (add-zero to) ∙ take-append-drop to cells
 
 -- one more behind what was put

@@ -1,7 +1,8 @@
 -- The cells of a sheet: what they hold, and where. Assumes nothing.
-use Prim.Native.Nat.{ℕ, zero, suc, _+_, _-_, _*_}
+use Prim.Native.Nat.{ℕ, _+_, _-_, _*_}
 use mathlib.Core.List.{List, [], _∷_, _++_, map}
 use lib.ListN.{length, getD, take, drop, replicate}
+use Rattle.std.specs.Iters.{counting}
 use Rattle.std.specs.shelf.Lists.{joined}
 use Rattle.std.specs.declared.option.Option.{Option}
 use Rattle.std.specs.declared.option.Option.the-variants.{Some, None}
@@ -21,11 +22,6 @@ needed n = main-cells n + spare-cells n
 -- n elements from place `from` on
 abbrev pub part : {X : Type 0} → ℕ → ℕ → List X → List X
 part from n xs = take n (drop from xs)
-
--- k parts of n elements each
-abbrev pub parts : {X : Type 0} → ℕ → ℕ → List X → List (List X)
-parts zero n xs = []
-parts (suc k) n xs = take n xs ∷ parts k n (drop n xs)
 
 module _ {N C : Type 0} (a : Arithmetic N C) where
   abbrev pub or-zero : Option N → N
@@ -53,9 +49,16 @@ module _ {N C : Type 0} (a : Arithmetic N C) where
   abbrev pub top-size : List C → ℕ → ℕ → ℕ → ℕ
   top-size cells first n j = a .size (number-at cells (first + j * (n + 1)))
 
+  -- move j of a sheet of n unknowns: its cells stand behind the fixed plan and the moves before it
+  abbrev pub move-at : List C → ℕ → ℕ → List N
+  move-at cells n j = numbers (part (n + j * n) n cells)
+
+  abbrev pub moves-at : List C → ℕ → ℕ → List (List N)
+  moves-at cells n k = map (move-at cells n) (counting 0 k)
+
   -- what the cells of a sheet of n unknowns and k moves hold: the fixed plan, and then the moves in order
   abbrev pub contents-in : ℕ → ℕ → List C → Contents N
-  contents-in n k cells = record { fixed = numbers (take n cells); moves = map numbers (parts k n (drop n cells)) }
+  contents-in n k cells = record { fixed = numbers (take n cells); moves = moves-at cells n k }
 
   -- the cells of a sheet of n unknowns that holds s: what is left of those for the moves, and the spare ones, hold zero,
   -- and the cells beyond hold what they held

@@ -10,9 +10,9 @@ use Rattle.std.specs.declared.result.Result.{Result}
 use Rattle.std.specs.declared.result.Result.the-variants.{Ok, Err}
 use Rattle.kinds.specs.Kind.{Arithmetic}
 use Rattle.lines.specs.Page.{over}
-use Rattle.plans.specs.Posting.{Column, Work, Turn, stop, again, fail, rounds, total-size}
+use Rattle.plans.specs.Posting.{Column, Work, Turn, stop, again, fail, topped, normalised, rounds, total-size}
 use Rattle.sheets.specs.declared.cells.Overflow.{Overflow}
-use Rattle.sheets.specs.Cells.{part, numbers, number-at}
+use Rattle.sheets.specs.Cells.{part, numbers, number-at, moves-at}
 
 -- h cells from place p on may have changed, and no others
 abbrev pub Only : {C : Type 0} → ℕ → ℕ → List C → List C → Type 0
@@ -64,3 +64,17 @@ module _ {N C : Type 0} (a : Arithmetic N C) where
   abbrev pub Ended : ℕ → ℕ → ℕ → List C → Result ℕ Overflow → List C → Type 0
   Ended n p k before (Ok l) after = (rounds-at before n p k ≡ Some (l, work-at a after n p k)) × (l < k) × Within p (work-cells n k) before after
   Ended n p k before (Err _) after = rounds-at before n p k ≡ None
+
+  -- the moves' columns below their tops came, or none came
+  abbrev pub Topped : List N → ℕ → ℕ → ℕ → List C → Result Unit Overflow → List C → Type 0
+  Topped cs n p k before (Ok _) after = (topped a cs (moves-at a before n k) ≡ Some (columns-at a after n p k)) × Within p (k * (n + 1)) before after
+  Topped cs n p k before (Err _) after = topped a cs (moves-at a before n k) ≡ None
+
+  -- the columns, normalised, came, or none came
+  abbrev pub Normal : ℕ → ℕ → ℕ → List C → Result Unit Overflow → List C → Type 0
+  Normal n p k before (Ok _) after = (normalised a (columns-at a before n p k) ≡ Some (columns-at a after n p k)) × Within p (k * (n + 1)) before after
+  Normal n p k before (Err _) after = normalised a (columns-at a before n p k) ≡ None
+
+  -- a column laid at p, of a top and the numbers from `from` on
+  abbrev pub Laid : ℕ → ℕ → N → ℕ → List C → List C → Type 0
+  Laid n p top from before after = (column-at a after n p ≡ record { top = top; low = numbers a (part from n before) }) × Only p (n + 1) before after

@@ -52,6 +52,16 @@ pub(crate) fn place(first: usize, n: usize, count: usize, j: usize, len: usize) 
     first + j * (n + 1)
 }
 
+// Where move j of `count` begins, of n entries each, behind the fixed plan; they end by cell `end`.
+pub(crate) fn move_place(n: usize, count: usize, j: usize, end: usize) -> usize
+    requires room { ⌜ n + count * n ≤ end ⌝ }
+    requires there { ⌜ j < count ⌝ }
+    ensures value { λ r. ⌜ r ≡ n + j * n ⌝ }
+    ensures within { λ r. ⌜ r + n ≤ end ⌝ }
+{
+    n + j * n
+}
+
 // The top of column j of `count`.
 pub(crate) fn top<K: Kind>(cells: &[K::Cell], first: usize, n: usize, count: usize, j: usize) -> K
     requires room { ⌜ first + count * (n + 1) ≤ length (now cells) ⌝ }
