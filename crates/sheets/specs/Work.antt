@@ -1,6 +1,7 @@
 -- The columns that a posting works on, as they stand in cells. Assumes nothing.
 use Prim.Native.Nat.{ℕ, suc, _+_, _*_, _<_}
 use mathlib.Core.Path.{_≡_}
+use mathlib.Core.Bool.{Bool, true, false}
 use mathlib.Core.List.{List, map}
 use lib.ListN.{length, take, drop}
 use Rattle.std.specs.Iters.{counting}
@@ -10,7 +11,7 @@ use Rattle.std.specs.declared.result.Result.{Result}
 use Rattle.std.specs.declared.result.Result.the-variants.{Ok, Err}
 use Rattle.kinds.specs.Kind.{Arithmetic}
 use Rattle.lines.specs.Page.{over}
-use Rattle.plans.specs.Posting.{Column, Work, Turn, stop, again, fail, topped, normalised, rounds, total-size}
+use Rattle.plans.specs.Posting.{Column, Work, Turn, stop, again, fail, Outcome, taken, contradicted, overflow, topped, normalised, rounds, total-size, without}
 use Rattle.sheets.specs.declared.cells.Overflow.{Overflow}
 use Rattle.sheets.specs.Cells.{part, numbers, number-at, moves-at}
 
@@ -78,3 +79,10 @@ module _ {N C : Type 0} (a : Arithmetic N C) where
   -- a column laid at p, of a top and the numbers from `from` on
   abbrev pub Laid : ℕ → ℕ → N → ℕ → List C → List C → Type 0
   Laid n p top from before after = (column-at a after n p ≡ record { top = top; low = numbers a (part from n before) }) × Only p (n + 1) before after
+
+  -- B reduced by the pivot l came to the new fixed plan, or to no plan, or overflowed
+  abbrev pub Finished : Outcome N → ℕ → ℕ → ℕ → ℕ → List C → Result Bool Overflow → List C → Type 0
+  Finished o n p k l before (Ok true) after =
+      (o ≡ taken (record { fixed = numbers a (part (p + 1) n after); moves = map (λ c. c .low) (without (columns-at a before n (p + (n + 1)) k) l) })) × Only (p + 1) n before after
+  Finished o n p k l before (Ok false) after = o ≡ contradicted
+  Finished o n p k l before (Err _) after = o ≡ overflow

@@ -1,4 +1,5 @@
 // Sheets over lent cells: check, opening, posting and showing, for every kind of number alike.
 mod cells;
 mod columns;
+mod finishing;
 mod rounds;
