@@ -1,3 +1,4 @@
+pub mod Closing
 pub mod Laying
 pub mod Numbers
 pub mod Places

@@ -60,9 +60,10 @@ module _ {N C : Type 0} (a : Arithmetic N C) where
   abbrev pub contents-in : ℕ → ℕ → List C → Contents N
   contents-in n k cells = record { fixed = numbers (take n cells); moves = moves-at cells n k }
 
-  -- the cells of a sheet of n unknowns that holds s: what is left of those for the moves, and the spare ones, hold zero,
-  -- and the cells beyond hold what they held
+  -- the main cells of a sheet of n unknowns that holds s: what is left of those for the moves holds zero
+  abbrev pub main-of : ℕ → Contents N → List C
+  main-of n s = held (s .fixed ++ joined (λ move. move) (s .moves)) ++ zero-cells ((n - length (s .moves)) * n)
+
+  -- all cells of a sheet of n unknowns that holds s: the spare ones hold zero, and those beyond what they held
   abbrev pub sheet-cells : ℕ → Contents N → List C → List C
-  sheet-cells n s cells =
-      held (s .fixed ++ joined (λ move. move) (s .moves))
-      ++ (zero-cells ((n - length (s .moves)) * n) ++ (zero-cells (spare-cells n) ++ drop (needed n) cells))
+  sheet-cells n s cells = main-of n s ++ (zero-cells (spare-cells n) ++ drop (needed n) cells)

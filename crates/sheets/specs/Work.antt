@@ -1,5 +1,5 @@
 -- The columns that a posting works on, as they stand in cells. Assumes nothing.
-use Prim.Native.Nat.{ℕ, suc, _+_, _*_, _<_}
+use Prim.Native.Nat.{ℕ, suc, _+_, _*_, _<_, _≤_}
 use mathlib.Core.Path.{_≡_}
 use mathlib.Core.Bool.{Bool, true, false}
 use mathlib.Core.List.{List, map}
@@ -11,6 +11,7 @@ use Rattle.std.specs.declared.result.Result.{Result}
 use Rattle.std.specs.declared.result.Result.the-variants.{Ok, Err}
 use Rattle.kinds.specs.Kind.{Arithmetic}
 use Rattle.lines.specs.Page.{over}
+use Rattle.plans.specs.Sheet.{Contents}
 use Rattle.plans.specs.Posting.{Column, Work, Turn, stop, again, fail, Outcome, taken, contradicted, overflow, topped, normalised, rounds, total-size, without}
 use Rattle.sheets.specs.declared.cells.Overflow.{Overflow}
 use Rattle.sheets.specs.Cells.{part, numbers, number-at, moves-at}
@@ -86,3 +87,12 @@ module _ {N C : Type 0} (a : Arithmetic N C) where
       (o ≡ taken (record { fixed = numbers a (part (p + 1) n after); moves = map (λ c. c .low) (without (columns-at a before n (p + (n + 1)) k) l) })) × Only (p + 1) n before after
   Finished o n p k l before (Ok false) after = o ≡ contradicted
   Finished o n p k l before (Err _) after = o ≡ overflow
+
+  -- what is left once B's entries are the fixed plan and the pivot l is dropped
+  abbrev pub left-at : List C → ℕ → ℕ → ℕ → ℕ → Contents N
+  left-at cells n p k l = record { fixed = numbers a (part (p + 1) n cells); moves = map (λ c. c .low) (without (columns-at a cells n (p + (n + 1)) k) l) }
+
+-- column r is move j once column l is dropped
+pub record Source (j l r : ℕ) : Type 0 where
+  pub before : j < l → r ≡ j
+  pub behind : l ≤ j → r ≡ j + 1
