@@ -15,10 +15,12 @@ use Rattle.kinds.specs.Kind.{Arithmetic, Laws}
 use Rattle.lines.specs.Page.{over}
 use Rattle.plans.specs.Posting.{then, Column, running, adds-column, blank, topped, normalised, total-size}
 use Rattle.sheets.specs.Cells.{part, number, numbers, held, number-at, move-at, moves-at}
-use Rattle.sheets.specs.Work.{Only, Within, column-at, columns-at, Laid}
+use Rattle.sheets.specs.Work.{Only, column-at, columns-at, Laid}
 use Rattle.sheets.proofs.Numbers.{length-numbers-part}
 use Rattle.sheets.proofs.Places.{column-in}
-use Rattle.sheets.proofs.Rounding.{only-within, within-trans, within-same, column-other, column-of, length-columns, columns-apart}
+use Rattle.sheets.specs.Combining.{Within}
+use Rattle.sheets.proofs.Limits.{only-within, within-trans, within-same}
+use Rattle.sheets.proofs.Rounding.{column-other, column-of, length-columns, columns-apart}
 use Rattle.sheets.proofs.Standing.{part-other, column-put}
 use Rattle.sheets.proofs.Walks.{over-nothing, over-push}
 
@@ -151,10 +153,12 @@ module _ {N C : Type 0} (a : Arithmetic N C) (cs : List N) (n p k : ℕ) (start 
   pub tops-start : Tops a cs n p k start 0 start
   tops-start = record { inside = within-same; sum = refl }
 
-  pub tops-none : (j : ℕ) (now : List C) → j < k → Tops a cs n p k start j now → running a (a .zero) cs (numbers a (part (n + j * n) n now)) ≡ None → topped a cs M ≡ None
+  pub tops-none : (j : ℕ) (now : List C) → j < k → Tops a cs n p k start j now → running a (a .zero) cs (numbers a (part (n + j * n) n now)) ≡ None → (topped a cs M ≡ None) × Within p (k * (n + 1)) start now
   tops-none j now h w e =
       let l = length-M in
-      ap (topped a cs) (at-place M j [] (omega arith)) ∙ topped-none a cs (take j M) (drop (j + 1) M) (getD M j []) (ap (running a (a .zero) cs) (sym (same-move j now h w)) ∙ e)
+      ( ap (topped a cs) (at-place M j [] (omega arith)) ∙ topped-none a cs (take j M) (drop (j + 1) M) (getD M j []) (ap (running a (a .zero) cs) (sym (same-move j now h w)) ∙ e)
+      , w .inside
+      )
 
   pub tops-more : (j : ℕ) (now next : List C) (t : N) → j < k → Tops a cs n p k start j now → running a (a .zero) cs (numbers a (part (n + j * n) n now)) ≡ Some t → Laid a n (p + j * (n + 1)) t (n + j * n) now next → Tops a cs n p k start (j + 1) next
   tops-more j now next t h w e (c, o) =

@@ -1,5 +1,6 @@
 pub mod Closing
 pub mod Laying
+pub mod Limits
 pub mod Numbers
 pub mod Places
 pub mod Rounding

@@ -18,28 +18,11 @@ use Rattle.lines.specs.Page.{over}
 use Rattle.plans.specs.Posting.{then, Column, Work, at, reduced, round}
 use Rattle.sheets.specs.declared.cells.Overflow.{Overflow}
 use Rattle.sheets.specs.Cells.{part, number, numbers, number-at}
-use Rattle.sheets.specs.Work.{Only, Within, column-at, columns-at, work-at, work-cells, Came-at, Worked}
+use Rattle.sheets.specs.Work.{Only, column-at, columns-at, work-at, work-cells, Came-at, Worked}
+use Rattle.sheets.proofs.Limits.{only-within, within-wider, within-trans}
 use Rattle.sheets.proofs.Places.{column-in}
 use Rattle.sheets.proofs.Standing.{part-other, length-over}
 use Rattle.sheets.proofs.Walks.{getD-over}
-
--- what changed within a part changed within a larger one
-pub only-within : {C : Type 0} (z : C) (p h P H : ℕ) (cs ds : List C) → Only p h cs ds → p + h ≤ length cs → P ≤ p → p + h ≤ P + H → Within P H cs ds
-only-within {C} z p h P H cs ds (s, (l, e)) b lo hi =
-    let n : length ds ≡ length cs = ap length e ∙ length-over cs s p (omega arith) in
-    record {
-      len = n;
-      front = ap (take P) e ∙ take-append-le P (take p cs) _ (let k = length-take-le p cs (omega arith) in omega arith) ∙ take-take P p cs lo;
-      back =
-        ext-getD z (drop (P + H) ds) (drop (P + H) cs) (simp length-drop (omega arith))
-        (λ i k. getD-drop (P + H) ds i z ∙ ap (λ (x : List C). getD x (P + H + i) z) e ∙ getD-over cs s p (P + H + i) z (omega arith) (inr (omega arith)) ∙ sym (getD-drop (P + H) cs i z));
-    }
-
-pub within-trans : {C : Type 0} {P H : ℕ} {cs ds es : List C} → Within P H cs ds → Within P H ds es → Within P H cs es
-within-trans u v = record { len = v .len ∙ u .len; front = v .front ∙ u .front; back = v .back ∙ u .back }
-
-pub within-same : {C : Type 0} {P H : ℕ} {cs : List C} → Within P H cs cs
-within-same = record { len = refl; front = refl; back = refl }
 
 module _ {N C : Type 0} (a : Arithmetic N C) (n : ℕ) where
   -- a column elsewhere is left
@@ -137,7 +120,13 @@ module _ {N C : Type 0} (a : Arithmetic N C) (n p k l r : ℕ) (cs : List C) (ro
           λ j. then (reduced a (x j) (y j)) (λ d. Some (record { B = column-at a ds n p; columns = set T l d })))
 
     pub round-came : (res : Result Unit Overflow) (es : List C) → Came-at a (reduced a (column-at a ds n at-l) (column-at a ds n at-r)) n at-l ds res es → Worked a (round a (work-at a cs n p k) l r) n p k cs res es
-    round-came (Err _) es e = half ∙ ap (λ (o : Option (Column N)). then o (λ d. Some (record { B = column-at a ds n p; columns = set T l d }))) e
+    round-came (Err _) es (e, w2) =
+        let z = a .to-cell (a .zero) in
+        let le = length-ds in
+        let x = column-in l k (n + 1) hl in
+        ( half ∙ ap (λ (o : Option (Column N)). then o (λ d. Some (record { B = column-at a ds n p; columns = set T l d }))) e
+        , within-trans (only-within z p (n + 1) p ((n + 1) + k * (n + 1)) cs ds only1 (omega arith) (omega arith) (omega arith)) (within-wider w2 (omega arith) (omega arith))
+        )
     round-came (Ok _) es (o2, only2) =
         let z = a .to-cell (a .zero) in
         let le = length-ds in

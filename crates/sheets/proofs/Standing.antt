@@ -105,7 +105,7 @@ module _ {N C : Type 0} (a : Arithmetic N C) where
 
     -- a walk down two columns, as the columns have it
     pub combined-came : (c d : Column N) (q : N) (u v : List N) (cells left : List C) (n to : ℕ) (r : Result Unit Overflow) → to + (n + 1) ≤ length cells → u ≡ listed c → v ≡ listed d → length u ≡ n + 1 → length v ≡ n + 1
-        → Combined a (adds a u q v) cells to r left → Came-at a (adds-column a c q d) n to cells r left
+        → Combined a (adds a u q v) (n + 1) cells to r left → Came-at a (adds-column a c q d) n to cells r left
     combined-came c d q u v cells left n to (Ok _) h eu ev lu lv w =
         let ys = w .0 in
         let s = adds-some c d q ys (sym (λ j. adds a (eu j) q (ev j)) ∙ w .1 .0) in
@@ -113,4 +113,4 @@ module _ {N C : Type 0} (a : Arithmetic N C) where
         ( s .1 .0 ∙ ap Some (sym (column-put cells left n to (s .0) ys h l (s .1 .1) (w .1 .1)))
         , (held a ys, (length-map ys (a .to-cell) ∙ l, w .1 .1))
         )
-    combined-came c d q u v cells left n to (Err _) h eu ev lu lv w = adds-nothing c d q (sym (λ j. adds a (eu j) q (ev j)) ∙ w)
+    combined-came c d q u v cells left n to (Err _) h eu ev lu lv w = (adds-nothing c d q (sym (λ j. adds a (eu j) q (ev j)) ∙ w .0), w .1)

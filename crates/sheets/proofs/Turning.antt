@@ -18,8 +18,10 @@ use Rattle.plans.proofs.Bests.{best-some}
 use Rattle.plans.proofs.Falling.{enough, turn-falls}
 use Rattle.sheets.specs.declared.cells.Overflow.{Overflow}
 use Rattle.sheets.specs.Cells.{top-size, number-at}
-use Rattle.sheets.specs.Work.{Within, column-at, columns-at, work-at, work-cells, Worked, Turned, rounds-at, Ended}
-use Rattle.sheets.proofs.Rounding.{length-columns, column-of, within-trans, within-same}
+use Rattle.sheets.specs.Work.{column-at, columns-at, work-at, work-cells, Worked, Turned, rounds-at, Ended}
+use Rattle.sheets.specs.Combining.{Within}
+use Rattle.sheets.proofs.Limits.{within-trans, within-same}
+use Rattle.sheets.proofs.Rounding.{length-columns, column-of}
 
 largest-same : (f g : ℕ → ℕ) (s n : ℕ) → ((j : ℕ) → j < n → f j ≡ g j) → largest-of f s n ≡ largest-of g s n
 largest-same f g s zero h = refl

@@ -173,6 +173,10 @@ module _ {N C : Type 0} (a : Arithmetic N C) (q : N) (keep : Bool) (cells : List
       let lv = length-V in
       adds-stop a q U V i (a .zero) (omega arith) (omega arith) (sym (product i left c d w k e f) ∙ p)
 
+  -- what changed so far
+  pub walk-only : (i : ℕ) (left : List C) → So-far i left → (changed : List C) × ((length changed ≡ i) × (left ≡ over cells to changed))
+  walk-only i left w = (held a (w .ys), (length-map (w .ys) (a .to-cell) ∙ w .long, w .stand))
+
   pub walk-end : (i : ℕ) (left : List C) → So-far i left → i ≡ h → (ys : List N) × ((adds a U q V ≡ Some ys) × (left ≡ over cells to (held a ys)))
   walk-end i left w e =
       let tu = take-all i U (let l = length-U in omega arith) in

@@ -14,6 +14,7 @@ use Rattle.lines.specs.Page.{over}
 use Rattle.plans.specs.Sheet.{Contents}
 use Rattle.plans.specs.Posting.{Column, Work, Turn, stop, again, fail, Outcome, taken, contradicted, overflow, topped, normalised, rounds, total-size, without}
 use Rattle.sheets.specs.declared.cells.Overflow.{Overflow}
+use Rattle.sheets.specs.Combining.{Within}
 use Rattle.sheets.specs.Cells.{part, numbers, number-at, moves-at}
 
 -- h cells from place p on may have changed, and no others
@@ -35,13 +36,7 @@ module _ {N C : Type 0} (a : Arithmetic N C) where
   -- the column at p came, or none came
   abbrev pub Came-at : Option (Column N) → ℕ → ℕ → List C → Result Unit Overflow → List C → Type 0
   Came-at o n p before (Ok _) after = (o ≡ Some (column-at after n p)) × Only p (n + 1) before after
-  Came-at o n p before (Err _) after = o ≡ None
-
--- nothing changed but, maybe, h cells from place p on
-pub record Within {C : Type 0} (p h : ℕ) (before after : List C) : Type 0 where
-  pub len : length after ≡ length before
-  pub front : take p after ≡ take p before
-  pub back : drop (p + h) after ≡ drop (p + h) before
+  Came-at o n p before (Err _) after = (o ≡ None) × Within p (n + 1) before after
 
 module _ {N C : Type 0} (a : Arithmetic N C) where
   -- the cells that column B at cell p and k moves' columns take
@@ -51,13 +46,13 @@ module _ {N C : Type 0} (a : Arithmetic N C) where
   -- what is worked on came, or none came
   abbrev pub Worked : Option (Work N) → ℕ → ℕ → ℕ → List C → Result Unit Overflow → List C → Type 0
   Worked o n p k before (Ok _) after = (o ≡ Some (work-at a after n p k)) × Within p (work-cells n k) before after
-  Worked o n p k before (Err _) after = o ≡ None
+  Worked o n p k before (Err _) after = (o ≡ None) × Within p (work-cells n k) before after
 
   -- a turn stopped at a pivot, went on, or failed
   abbrev pub Turned : Turn N → ℕ → ℕ → ℕ → List C → Result (Option ℕ) Overflow → List C → Type 0
   Turned t n p k before (Ok (Some l)) after = (t ≡ stop l) × (after ≡ before)
   Turned t n p k before (Ok None) after = (t ≡ again (work-at a after n p k)) × Within p (work-cells n k) before after
-  Turned t n p k before (Err _) after = t ≡ fail
+  Turned t n p k before (Err _) after = (t ≡ fail) × Within p (work-cells n k) before after
 
   -- the rounds ended at a pivot, or failed
   abbrev pub rounds-at : List C → ℕ → ℕ → ℕ → Option (ℕ × Work N)
@@ -65,17 +60,17 @@ module _ {N C : Type 0} (a : Arithmetic N C) where
 
   abbrev pub Ended : ℕ → ℕ → ℕ → List C → Result ℕ Overflow → List C → Type 0
   Ended n p k before (Ok l) after = (rounds-at before n p k ≡ Some (l, work-at a after n p k)) × (l < k) × Within p (work-cells n k) before after
-  Ended n p k before (Err _) after = rounds-at before n p k ≡ None
+  Ended n p k before (Err _) after = (rounds-at before n p k ≡ None) × Within p (work-cells n k) before after
 
   -- the moves' columns below their tops came, or none came
   abbrev pub Topped : List N → ℕ → ℕ → ℕ → List C → Result Unit Overflow → List C → Type 0
   Topped cs n p k before (Ok _) after = (topped a cs (moves-at a before n k) ≡ Some (columns-at a after n p k)) × Within p (k * (n + 1)) before after
-  Topped cs n p k before (Err _) after = topped a cs (moves-at a before n k) ≡ None
+  Topped cs n p k before (Err _) after = (topped a cs (moves-at a before n k) ≡ None) × Within p (k * (n + 1)) before after
 
   -- the columns, normalised, came, or none came
   abbrev pub Normal : ℕ → ℕ → ℕ → List C → Result Unit Overflow → List C → Type 0
   Normal n p k before (Ok _) after = (normalised a (columns-at a before n p k) ≡ Some (columns-at a after n p k)) × Within p (k * (n + 1)) before after
-  Normal n p k before (Err _) after = normalised a (columns-at a before n p k) ≡ None
+  Normal n p k before (Err _) after = (normalised a (columns-at a before n p k) ≡ None) × Within p (k * (n + 1)) before after
 
   -- a column laid at p, of a top and the numbers from `from` on
   abbrev pub Laid : ℕ → ℕ → N → ℕ → List C → List C → Type 0
@@ -85,8 +80,8 @@ module _ {N C : Type 0} (a : Arithmetic N C) where
   abbrev pub Finished : Outcome N → ℕ → ℕ → ℕ → ℕ → List C → Result Bool Overflow → List C → Type 0
   Finished o n p k l before (Ok true) after =
       (o ≡ taken (record { fixed = numbers a (part (p + 1) n after); moves = map (λ c. c .low) (without (columns-at a before n (p + (n + 1)) k) l) })) × Only (p + 1) n before after
-  Finished o n p k l before (Ok false) after = o ≡ contradicted
-  Finished o n p k l before (Err _) after = o ≡ overflow
+  Finished o n p k l before (Ok false) after = (o ≡ contradicted) × (after ≡ before)
+  Finished o n p k l before (Err _) after = (o ≡ overflow) × Within p (work-cells n k) before after
 
   -- what is left once B's entries are the fixed plan and the pivot l is dropped
   abbrev pub left-at : List C → ℕ → ℕ → ℕ → ℕ → Contents N

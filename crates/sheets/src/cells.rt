@@ -112,7 +112,7 @@ pub(crate) fn combine<K: Kind>(cells: &mut [K::Cell], to: usize, from: usize, he
     requires to { ⌜ to + height ≤ length (now cells) ⌝ }
     requires from { ⌜ from + height ≤ length (now cells) ⌝ }
     requires apart { ⌜ (to ≤ from) ⊎ (from + height ≤ to) ⌝ }
-    ensures { λ r. ⌜ Combined (K·Kind .arith) (adds (K·Kind .arith) (base (K·Kind .arith) keep (numbers (K·Kind .arith) (part to height (now (cells .entry))))) q (numbers (K·Kind .arith) (part from height (now (cells .entry))))) (now (cells .entry)) to r (now (cells .exit)) ⌝ }
+    ensures { λ r. ⌜ Combined (K·Kind .arith) (adds (K·Kind .arith) (base (K·Kind .arith) keep (numbers (K·Kind .arith) (part to height (now (cells .entry))))) q (numbers (K·Kind .arith) (part from height (now (cells .entry))))) height (now (cells .entry)) to r (now (cells .exit)) ⌝ }
 {
     for i in 0..height {
         let c = kept::<K>(cells, to + i, keep);

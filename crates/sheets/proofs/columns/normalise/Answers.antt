@@ -5,6 +5,8 @@ use Rattle.std.proofs.shelf.Results.{err-from-errBy}
 use Rattle.std.specs.declared.option.Option.the-variants.{Some, None}
 use Rattle.plans.specs.Posting.{adds-column, blank}
 use Rattle.sheets.specs.Work.{Only, column-at}
+use Rattle.sheets.proofs.Limits.{within-trans, within-wider}
+use Rattle.sheets.proofs.Places.{column-in}
 use Rattle.sheets.proofs.Laying.{units-start, units-none, units-more, units-end}
 use Rattle.sheets.proofs.columns.normalise.Needs as need
 
@@ -19,8 +21,8 @@ returns-in-Break-scale-column g c =
     let q = err-from-errBy (c .from-residual .result) (c .from-residual .ensures .1) in
     let u = c .unit-u .ensures ∙ ap (a .unit) (c .read .ensures) in
     let e = ap (λ (x : g .K .Denot). adds-column a (blank a (column-at a now n (c .place-at .result))) x (column-at a now n (c .place-at .result))) u in
-    let f = subst (λ (x : ℕ). adds-column a (blank a (column-at a now n x)) (a .unit (column-at a now n x .top)) (column-at a now n x) ≡ None) (c .place-at .ensures .value) (sym e ∙ c .in-Break-scale-column .ensures tt) in
-    rw (q .1) (units-none a n (c .args .first) (c .args .count) (c .args .cells .now) (c .pre) (c .loop-j .j) now (c .loop-j-test .taken) (c .loop-j .inv) f)
+    let f = subst (λ (x : ℕ). adds-column a (blank a (column-at a now n x)) (a .unit (column-at a now n x .top)) (column-at a now n x) ≡ None) (c .place-at .ensures .value) (sym e ∙ c .in-Break-scale-column .ensures tt .0) in
+    rw (q .1) (units-none a n (c .args .first) (c .args .count) (c .args .cells .now) (c .pre) (c .loop-j .j) now (c .loop-j-test .taken) (c .loop-j .inv) f, within-trans (c .loop-j .inv .inside) (within-wider (c .in-Break-scale-column .ensures tt .1) (omega (arith, c .place-at .ensures .value)) (omega (arith, c .place-at .ensures .value, column-in (c .loop-j .j) (c .args .count) (n + 1) (c .loop-j-test .taken)))))
 
 pub loop-j-again : need.loop-j-again
 loop-j-again g c =

@@ -8,6 +8,7 @@ use Rattle.std.proofs.shelf.Results.{err-from-errBy}
 use Rattle.std.specs.declared.option.Option.the-variants.{Some, None}
 use Rattle.plans.specs.Posting.{reduced}
 use Rattle.sheets.specs.Work.{Only, column-at, Came-at}
+use Rattle.sheets.proofs.Limits.{within-wider}
 use Rattle.sheets.proofs.Rounding.{columns-apart, round-first-none, round-came, second-room}
 use Rattle.sheets.proofs.rounds.round.Needs as need
 
@@ -17,8 +18,8 @@ returns-in-Break-reduce g c =
     let cs = c .args .cells .now in
     let n = c .args .n in
     let p = err-from-errBy (c .from-residual .result) (c .from-residual .ensures .1) in
-    let e = subst (λ (q : ℕ). reduced a (column-at a cs n (c .args .at)) (column-at a cs n q) ≡ None) (c .place-p .ensures .value) (c .in-Break-reduce .ensures tt) in
-    rw (p .1) (round-first-none a n (c .args .at) (c .args .count) (c .args .pivot) (c .args .runner) cs (c .pre .room) (c .pre .pivot) (c .pre .runner) (c .pre .other) e)
+    let e = subst (λ (q : ℕ). reduced a (column-at a cs n (c .args .at)) (column-at a cs n q) ≡ None) (c .place-p .ensures .value) (c .in-Break-reduce .ensures tt .0) in
+    rw (p .1) (round-first-none a n (c .args .at) (c .args .count) (c .args .pivot) (c .args .runner) cs (c .pre .room) (c .pre .pivot) (c .pre .runner) (c .pre .other) e, within-wider (c .in-Break-reduce .ensures tt .1) (omega arith) (omega arith))
 
 pub reduce-requires-2 : need.reduce-requires-2
 reduce-requires-2 g c κs =
