@@ -3,6 +3,7 @@ pub mod Laying
 pub mod Limits
 pub mod Numbers
 pub mod Places
+pub mod Preparing
 pub mod Rounding
 pub mod Settling
 pub mod Standing

@@ -2,4 +2,5 @@
 mod cells;
 mod columns;
 mod finishing;
+mod posting;
 mod rounds;
