@@ -50,7 +50,7 @@ module _ {N C : Type 0} (a : Arithmetic N C) (n p k l : ℕ) (start : List C) (m
   abbrev L : List (List N)
   L = map (λ c. c .low) (without T l)
 
-  length-L : length L ≡ k - 1
+  pub length-L : length L ≡ k - 1
   length-L = length-map (without T l) (λ c. c .low) ∙ (let t = length-columns a n (p + (n + 1)) k start in let w = length-without T l (omega arith) in omega arith)
 
   length-F : length F ≡ n

@@ -2,6 +2,7 @@ pub mod Closing
 pub mod Laying
 pub mod Limits
 pub mod Numbers
+pub mod Outcomes
 pub mod Places
 pub mod Preparing
 pub mod Rounding
