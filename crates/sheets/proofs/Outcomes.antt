@@ -184,3 +184,61 @@ module _ {N C : Type 0} (a : Arithmetic N C) (n p k : ℕ) (cs : List C) (place 
           let lf = w .len in
           subst (λ (x : Outcome N). Settled a x n p k cs (Ok Taken) gs) (sym q)
           (settled-taken a n p k place (left-at a fs n p k l) cs fs gs w (length-left a n p k l fs place few (omega arith) hl) (omega arith) g)
+
+module _ {N C : Type 0} (a : Arithmetic N C) (es : List N) (right : N) (n p k : ℕ) (cs : List C) (place : p ≡ n * (n + 1)) (ds : List C) (w : Within p (work-cells a n k) cs ds) where
+  abbrev P : Outcome N
+  P = posted a (contents-in a n k cs) es right
+
+  none-B : (o : Option (List (Column N))) → prepared a o None ≡ overflow
+  none-B None = refl
+  none-B (Some x) = refl
+
+  pub prepare-fails : (r : Result Verdict SheetFault) → r ≡ answer-of {N = N} overflow → (topped a es (moves-at a cs n k) ≡ None) ⊎ (column-B a es right (numbers a (take n cs)) ≡ None) → Settled a P n p k cs r ds
+  prepare-fails r er e =
+      let o : P ≡ overflow
+            = ⊎-elim (λ t. ap (λ (x : Option (List (Column N))). prepared a x (column-B a es right (numbers a (take n cs)))) t) (λ b. ap (prepared a (topped a es (moves-at a cs n k))) b ∙ none-B (topped a es (moves-at a cs n k))) e in
+      settled-kept a n p k place P r cs ds (er ∙ ap answer-of (sym o)) (ap (λ (x : Outcome N). main-after a x n cs) o) w
+
+  module _ (et : topped a es (moves-at a cs n k) ≡ Some (columns-at a ds n (p + (n + 1)) k)) (eb : column-B a es right (numbers a (take n cs)) ≡ Some (column-at a ds n p)) where
+    abbrev T : List (Column N)
+    T = columns-at a ds n (p + (n + 1)) k
+
+    abbrev B : Column N
+    B = column-at a ds n p
+
+    after-prepare : P ≡ flat a T B (worked a B (normalised a T))
+    after-prepare = λ i. prepared a (et i) (eb i)
+
+    module _ (z : eqb (total-size a T) 0 ≡ true) where
+      when-flat : P ≡ cond (eqb (a .size (B .top)) 0) implied contradicted
+      when-flat = after-prepare ∙ cond-true (eqb (total-size a T) 0) (cond (eqb (a .size (B .top)) 0) implied contradicted) (worked a B (normalised a T)) z
+
+      pub flat-implied : eqb (a .size (B .top)) 0 ≡ true → Settled a P n p k cs (answer-of {N = N} implied) ds
+      flat-implied e =
+          let o : P ≡ implied = when-flat ∙ cond-true (eqb (a .size (B .top)) 0) implied contradicted e in
+          settled-kept a n p k place P (answer-of {N = N} implied) cs ds (ap answer-of (sym o)) (ap (λ (x : Outcome N). main-after a x n cs) o) w
+
+      pub flat-contradicted : eqb (a .size (B .top)) 0 ≡ false → Settled a P n p k cs (answer-of {N = N} contradicted) ds
+      flat-contradicted e =
+          let o : P ≡ contradicted = when-flat ∙ cond-false (eqb (a .size (B .top)) 0) implied contradicted e in
+          settled-kept a n p k place P (answer-of {N = N} contradicted) cs ds (ap answer-of (sym o)) (ap (λ (x : Outcome N). main-after a x n cs) o) w
+
+    pub not-flat : (r : Result Verdict SheetFault) (fs : List C) → eqb (total-size a T) 0 ≡ false → Settled a (worked a B (normalised a T)) n p k ds r fs → Settled a P n p k cs r fs
+    not-flat r fs z s =
+        let o : P ≡ worked a B (normalised a T) = after-prepare ∙ cond-false (eqb (total-size a T) 0) (cond (eqb (a .size (B .top)) 0) implied contradicted) (worked a B (normalised a T)) z in
+        subst (λ (x : Outcome N). Settled a x n p k cs r fs) (sym o) (settled-from a n p k place (worked a B (normalised a T)) r cs ds fs w s)
+
+-- the spare cells wiped at the end
+pub all-cells : {N C : Type 0} (a : Arithmetic N C) (o : Outcome N) (n p k : ℕ) (cs ds es : List C) (r : Result Verdict SheetFault) → p ≡ n * (n + 1) → k ≤ n → p + spare-cells n ≤ length cs → Settled a o n p k cs r ds → es ≡ over ds p (zero-cells a (spare-cells n)) → es ≡ cells-after a o n cs
+all-cells {N} {C} a o n p k cs ds es r place few room s e =
+    let z = length-replicate (spare-cells n) (a .to-cell (a .zero)) in
+    let m : take p ds ≡ main-after a o n cs = ap (λ (i : ℕ). take i ds) place ∙ s .main in
+    let q : p + length (zero-cells a (spare-cells n)) ≡ needed n = omega arith in
+    let b : drop (needed n) ds ≡ drop (needed n) cs = back (needed n - (p + work-cells a n k)) (let w : (n + 1) + k * (n + 1) ≤ spare-cells n = wide in omega arith) in
+    e ∙ (λ i. m i ++ (zero-cells a (spare-cells n) ++ drop (q i) ds)) ∙ ap (λ (x : List C). main-after a o n cs ++ (zero-cells a (spare-cells n) ++ x)) b
+  where
+    wide : (n + 1) + k * (n + 1) ≤ spare-cells n
+    wide = let t = column-in k (n + 1) (n + 1) (omega arith) in omega arith
+    back : (d : ℕ) → p + work-cells a n k + d ≡ needed n → drop (needed n) ds ≡ drop (needed n) cs
+    back d f =
+        ap (λ (i : ℕ). drop i ds) (sym f) ∙ sym (drop-drop d (p + work-cells a n k) ds) ∙ ap (drop d) (s .back) ∙ drop-drop d (p + work-cells a n k) cs ∙ ap (λ (i : ℕ). drop i cs) f
