@@ -29,9 +29,9 @@ puts-push m (v ∷ ws) w = puts-push (with-word m v) ws w
 pub puts-more : (m : Model) (ws : List ℤ) (i : ℕ) → i < length ws → puts m (take (i + 1) ws) ≡ with-word (puts m (take i ws)) (getD ws i (pos 0))
 puts-more m ws i h = ap (puts m) (take-more ws i (pos 0) h) ∙ puts-push m (take i ws) (getD ws i (pos 0))
 
-over-inside : (d : List ℕ) (at x : ℕ) (p q q' r : List ℕ) → x ≡ at + length p → length q ≡ length q' → at ≤ length d
+pub over-inside : {X : Type 0} (d : List X) (at x : ℕ) (p q q' r : List X) → x ≡ at + length p → length q ≡ length q' → at ≤ length d
     → over (over d at (p ++ (q ++ r))) x q' ≡ over d at (p ++ (q' ++ r))
-over-inside d at x p q q' r e lq le =
+over-inside {X} d at x p q q' r e lq le =
     let T = take at d in
     let D = drop (at + length (p ++ (q ++ r))) d in
     let D' = drop (at + length (p ++ (q' ++ r))) d in
@@ -45,9 +45,9 @@ over-inside d at x p q q' r e lq le =
     let d1 : drop (x + length q') (T ++ ((p ++ (q ++ r)) ++ D)) ≡ r ++ D = ap (drop (x + length q')) split2 ∙ drop-at ((T ++ p) ++ q) (r ++ D) (x + length q') n2 in
     let dd : D ≡ D' = ap (λ (n : ℕ). drop (at + n) d) same in
     let last : (T ++ p) ++ (q' ++ (r ++ D')) ≡ T ++ ((p ++ (q' ++ r)) ++ D') = simp append-assoc in
-    ap (λ (a : List ℕ). a ++ (q' ++ drop (x + length q') (T ++ ((p ++ (q ++ r)) ++ D)))) t1
-    ∙ ap (λ (b : List ℕ). (T ++ p) ++ (q' ++ b)) d1
-    ∙ ap (λ (b : List ℕ). (T ++ p) ++ (q' ++ (r ++ b))) dd
+    ap (λ (a : List X). a ++ (q' ++ drop (x + length q') (T ++ ((p ++ (q ++ r)) ++ D)))) t1
+    ∙ ap (λ (b : List X). (T ++ p) ++ (q' ++ b)) d1
+    ∙ ap (λ (b : List X). (T ++ p) ++ (q' ++ (r ++ b))) dd
     ∙ last
 
 -- n zeroes

@@ -14,7 +14,7 @@ use Rattle.lines.specs.declared.page.Page.{Page}
 use Rattle.lines.specs.Hex.{text, word-text}
 
 -- the bytes d with s put from `at` on
-abbrev pub over : List ℕ → ℕ → List ℕ → List ℕ
+abbrev pub over : {X : Type 0} → List X → ℕ → List X → List X
 over d at s = take at d ++ (s ++ drop (at + length s) d)
 
 -- the bytes d with n of them zeroed from `at` on

@@ -1,0 +1,12 @@
+pub mod Closing
+pub mod Laying
+pub mod Limits
+pub mod Numbers
+pub mod Outcomes
+pub mod Places
+pub mod Preparing
+pub mod Rounding
+pub mod Settling
+pub mod Standing
+pub mod Turning
+pub mod Walks

@@ -1,0 +1,4 @@
+pub mod Cells
+pub mod Combining
+pub mod Posted
+pub mod Work

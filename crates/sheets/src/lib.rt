@@ -1,0 +1,6 @@
+// Sheets over lent cells: check, opening, posting and showing, for every kind of number alike.
+mod cells;
+mod columns;
+mod finishing;
+mod posting;
+mod rounds;
