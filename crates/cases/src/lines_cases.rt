@@ -9,7 +9,14 @@ use std::test::*;
 fn outcome(line: &[u8]) -> (u8, i32) {
     let mut words = [0i32; MOST_NUMBERS];
     match read_line(line, &[0x01, 0x02], &mut words) {
-        Ok(read) => (0, if read.count < 100 { read.count as i32 } else { 100 }),
+        Ok(read) => (
+            0,
+            if read.count < 100 {
+                read.count as i32
+            } else {
+                100
+            },
+        ),
         Err(fault) => (fault.number(), fault.place()),
     }
 }

@@ -65,10 +65,10 @@ module _ {N C : Type 0} (a : Arithmetic N C) (n p k l : ℕ) (start : List C) (m
       let m : getD L j [] ≡ getD (without T l) j d .low = getD-map (λ (c : Column N). c .low) (without T l) j d [] (omega arith) in
       ⊎-elim
       (λ b. let e = s .before b in
-        (omega arith, m ∙ ap (λ (c : Column N). c .low) (without-before T l j d b (omega arith) ∙ column-of a n (p + (n + 1)) k start j d (omega arith)) ∙ ap (λ (i : ℕ). numbers a (part (p + (n + 1) + i * (n + 1) + 1) n start)) (sym e)))
+      (omega arith, m ∙ ap (λ (c : Column N). c .low) (without-before T l j d b (omega arith) ∙ column-of a n (p + (n + 1)) k start j d (omega arith)) ∙ ap (λ (i : ℕ). numbers a (part (p + (n + 1) + i * (n + 1) + 1) n start)) (sym e)))
       (λ b. let e = s .behind b in
-        let f : suc j ≡ r = omega arith in
-        (omega arith, m ∙ ap (λ (c : Column N). c .low) (without-behind T l j d b ∙ column-of a n (p + (n + 1)) k start (suc j) d (omega arith)) ∙ ap (λ (i : ℕ). numbers a (part (p + (n + 1) + i * (n + 1) + 1) n start)) f))
+      let f : suc j ≡ r = omega arith in
+      (omega arith, m ∙ ap (λ (c : Column N). c .low) (without-behind T l j d b ∙ column-of a n (p + (n + 1)) k start (suc j) d (omega arith)) ∙ ap (λ (i : ℕ). numbers a (part (p + (n + 1) + i * (n + 1) + 1) n start)) f))
       (cases-lt j l)
 
   -- the column of a source lies within the cells
@@ -113,7 +113,7 @@ module _ {N C : Type 0} (a : Arithmetic N C) (n p k l : ℕ) (start : List C) (m
       let sq = square in
       let jn : j * n ≤ (k - 1) * n = mul-le-mul-right n (omega arith) in
       let v : numbers a (part (from + 1) n now) ≡ getD L j []
-            = ap (numbers a) ((λ i. part (ef i + 1) n (e i)) ∙ part-other (a .to-cell (a .zero)) start (held a (So-far j)) n (p + (n + 1) + r * (n + 1) + 1) n (omega arith) (omega arith) (inr (omega arith))) ∙ sym (m .1) in
+      = ap (numbers a) ((λ i. part (ef i + 1) n (e i)) ∙ part-other (a .to-cell (a .zero)) start (held a (So-far j)) n (p + (n + 1) + r * (n + 1) + 1) n (omega arith) (omega arith) (inr (omega arith))) ∙ sym (m .1) in
       let t : to ≡ n + length (held a (So-far j)) = omega arith in
       f
       ∙ (λ i. over (e i) (t i) (held a (v i)))
@@ -137,8 +137,8 @@ module _ {N C : Type 0} (a : Arithmetic N C) (n p k l : ℕ) (start : List C) (m
       let J = joined (λ m. m) L in
       let z = zero-add (length (held a F)) in
       let e1 : es ≡ over start 0 (held a (F ++ J))
-             = ee ∙ ap (λ (x : List (List N)). over ds n (held a (joined (λ m. m) x))) el ∙ ap (λ (x : List C). over x n (held a J)) ed
-             ∙ ap (λ (i : ℕ). over (over start 0 (held a F)) i (held a J)) (omega arith) ∙ over-append start (held a F) (held a J) 0 (omega arith) ∙ ap (over start 0) (sym (map-append (a .to-cell) F J)) in
+      = ee ∙ ap (λ (x : List (List N)). over ds n (held a (joined (λ m. m) x))) el ∙ ap (λ (x : List C). over x n (held a J)) ed
+      ∙ ap (λ (i : ℕ). over (over start 0 (held a F)) i (held a J)) (omega arith) ∙ over-append start (held a F) (held a J) 0 (omega arith) ∙ ap (over start 0) (sym (map-append (a .to-cell) F J)) in
       let lj : length (held a (F ++ J)) ≡ n + (k - 1) * n = ap length (map-append (a .to-cell) F J) ∙ length-append (held a F) (held a J) ∙ omega arith in
       let y = zero-add (length (held a (F ++ J))) in
       ef ∙ ap (λ (x : List C). over x (n + (k - 1) * n) (zero-cells a ((n - (k - 1)) * n))) e1
@@ -154,10 +154,10 @@ columns-behind {N} {C} a n first k cs s h room =
     let d = column-at a cs n 0 in
     ext-getD d (columns-at a ds n first k) (columns-at a cs n first k) (length-columns a n first k ds ∙ sym (length-columns a n first k cs))
     (λ j b.
-      let jk : j < k = let l = length-columns a n first k ds in omega arith in
-      let c = column-in j k (n + 1) jk in
-      let q = first + j * (n + 1) in
-      let t : number-at a ds q ≡ number-at a cs q = ap (number a) (getD-over cs s 0 q z (omega arith) (inr (omega arith))) in
-      let u : numbers a (part (q + 1) n ds) ≡ numbers a (part (q + 1) n cs) = ap (numbers a) (part-other z cs s 0 (q + 1) n (omega arith) (omega arith) (inr (omega arith))) in
-      let e : column-at a ds n q ≡ column-at a cs n q = λ i. record { top = t i; low = u i } in
-      column-of a n first k ds j d jk ∙ e ∙ sym (column-of a n first k cs j d jk))
+    let jk : j < k = let l = length-columns a n first k ds in omega arith in
+    let c = column-in j k (n + 1) jk in
+    let q = first + j * (n + 1) in
+    let t : number-at a ds q ≡ number-at a cs q = ap (number a) (getD-over cs s 0 q z (omega arith) (inr (omega arith))) in
+    let u : numbers a (part (q + 1) n ds) ≡ numbers a (part (q + 1) n cs) = ap (numbers a) (part-other z cs s 0 (q + 1) n (omega arith) (omega arith) (inr (omega arith))) in
+    let e : column-at a ds n q ≡ column-at a cs n q = λ i. record { top = t i; low = u i } in
+    column-of a n first k ds j d jk ∙ e ∙ sym (column-of a n first k cs j d jk))

@@ -33,8 +33,8 @@ over-append {X} cells s t p h =
     let e : over cells p s ≡ (T ++ s) ++ D = sym (append-assoc T s D) in
     let f : take (p + length s) (over cells p s) ≡ T ++ s = ap (take (p + length s)) e ∙ take-at (T ++ s) D (p + length s) l in
     let g : drop (p + length s + length t) (over cells p s) ≡ drop (p + length (s ++ t)) cells
-          = sym (drop-drop (length t) (p + length s) (over cells p s)) ∙ ap (drop (length t)) (ap (drop (p + length s)) e ∙ drop-at (T ++ s) D (p + length s) l)
-          ∙ drop-drop (length t) (p + length s) cells ∙ ap (λ (m : ℕ). drop m cells) (let k = length-append s t in omega arith) in
+    = sym (drop-drop (length t) (p + length s) (over cells p s)) ∙ ap (drop (length t)) (ap (drop (p + length s)) e ∙ drop-at (T ++ s) D (p + length s) l)
+    ∙ drop-drop (length t) (p + length s) cells ∙ ap (λ (m : ℕ). drop m cells) (let k = length-append s t in omega arith) in
     (λ j. f j ++ (t ++ g j)) ∙ append-assoc T s (t ++ drop (p + length (s ++ t)) cells) ∙ ap (λ (x : List X). T ++ x) (sym (append-assoc s t (drop (p + length (s ++ t)) cells)))
 
 -- what stands before a change is left
@@ -54,12 +54,12 @@ module _ {N C : Type 0} (a : Arithmetic N C) (laws : Laws a) where
       let x = a .to-cell top in
       let V = numbers a (part from n cs) in
       let d : ds ≡ over cs to (x ∷ [])
-            = ed ∙ ap (λ (t : List C). set t to x) (sym (over-nothing cs to)) ∙ ap (λ (m : ℕ). set (over cs to []) m x) (sym (add-zero to)) ∙ over-push cs [] to x (omega arith) in
+      = ed ∙ ap (λ (t : List C). set t to x) (sym (over-nothing cs to)) ∙ ap (λ (m : ℕ). set (over cs to []) m x) (sym (add-zero to)) ∙ over-push cs [] to x (omega arith) in
       let v : numbers a (part from n ds) ≡ V = ap (numbers a) (ap (part from n) d ∙ part-other z cs (x ∷ []) to from n (omega arith) (omega arith) (inl b)) in
       let e : es ≡ over cs to (held a (top ∷ V)) = ee ∙ (λ j. over (d j) (to + 1) (held a (v j))) ∙ over-append cs (x ∷ []) (held a V) to (omega arith) in
-      let l : length (top ∷ V) ≡ n + 1 = let k = length-numbers-part a cs from n (omega arith) in omega arith in
-      ( column-put a laws cs es n to (record { top = top; low = V }) (top ∷ V) h l refl e
-      , (held a (top ∷ V), (length-map (top ∷ V) (a .to-cell) ∙ l, e))
+      let l : length (top ∷ V) ≡ n + 1 = let k = length-numbers-part a cs from n (omega arith) in omega arith in (
+        column-put a laws cs es n to (record { top = top; low = V }) (top ∷ V) h l refl e,
+        (held a (top ∷ V), (length-map (top ∷ V) (a .to-cell) ∙ l, e)),
       )
 
 module _ {N C : Type 0} (a : Arithmetic N C) (n p : ℕ) where
@@ -73,9 +73,9 @@ module _ {N C : Type 0} (a : Arithmetic N C) (n p : ℕ) where
       let d = column-at a cs n 0 in
       ext-getD d (columns-at a ds n p j) (columns-at a cs n p j) (length-columns a n p j ds ∙ sym (length-columns a n p j cs))
       (λ i k.
-        let ij : i < j = let l = length-columns a n p j ds in omega arith in
-        let c = column-in i j (n + 1) ij in
-        column-of a n p j ds i d ij ∙ column-other a n cs ds q (p + i * (n + 1)) o h (omega arith) (inl (omega arith)) ∙ sym (column-of a n p j cs i d ij))
+      let ij : i < j = let l = length-columns a n p j ds in omega arith in
+      let c = column-in i j (n + 1) ij in
+      column-of a n p j ds i d ij ∙ column-other a n cs ds q (p + i * (n + 1)) o h (omega arith) (inl (omega arith)) ∙ sym (column-of a n p j cs i d ij))
 
 -- definitions by lists, one element more at their end
 module _ {N C : Type 0} (a : Arithmetic N C) where
@@ -155,9 +155,9 @@ module _ {N C : Type 0} (a : Arithmetic N C) (cs : List N) (n p k : ℕ) (start 
 
   pub tops-none : (j : ℕ) (now : List C) → j < k → Tops a cs n p k start j now → running a (a .zero) cs (numbers a (part (n + j * n) n now)) ≡ None → (topped a cs M ≡ None) × Within p (k * (n + 1)) start now
   tops-none j now h w e =
-      let l = length-M in
-      ( ap (topped a cs) (at-place M j [] (omega arith)) ∙ topped-none a cs (take j M) (drop (j + 1) M) (getD M j []) (ap (running a (a .zero) cs) (sym (same-move j now h w)) ∙ e)
-      , w .inside
+      let l = length-M in (
+        ap (topped a cs) (at-place M j [] (omega arith)) ∙ topped-none a cs (take j M) (drop (j + 1) M) (getD M j []) (ap (running a (a .zero) cs) (sym (same-move j now h w)) ∙ e),
+        w .inside,
       )
 
   pub tops-more : (j : ℕ) (now next : List C) (t : N) → j < k → Tops a cs n p k start j now → running a (a .zero) cs (numbers a (part (n + j * n) n now)) ≡ Some t → Laid a n (p + j * (n + 1)) t (n + j * n) now next → Tops a cs n p k start (j + 1) next
@@ -169,20 +169,20 @@ module _ {N C : Type 0} (a : Arithmetic N C) (cs : List N) (n p k : ℕ) (start 
       let m = same-move j now h w in
       let i : Within p (k * (n + 1)) now next = only-within z (p + j * (n + 1)) (n + 1) p (k * (n + 1)) now next o (omega arith) (omega arith) (omega arith) in
       let q : columns-at a next n p (j + 1) ≡ columns-at a now n p j ++ record { top = t; low = getD M j [] } ∷ []
-            = columns-push a n p next j
-            ∙ ap (λ (x : List (Column N)). x ++ column-at a next n (p + j * (n + 1)) ∷ []) (columns-before a n p now next j (p + j * (n + 1)) o (omega arith) (omega arith))
-            ∙ ap (λ (x : Column N). columns-at a now n p j ++ x ∷ []) c
-            ∙ ap (λ (x : List N). columns-at a now n p j ++ record { top = t; low = x } ∷ []) m in
+      = columns-push a n p next j
+      ∙ ap (λ (x : List (Column N)). x ++ column-at a next n (p + j * (n + 1)) ∷ []) (columns-before a n p now next j (p + j * (n + 1)) o (omega arith) (omega arith))
+      ∙ ap (λ (x : Column N). columns-at a now n p j ++ x ∷ []) c
+      ∙ ap (λ (x : List N). columns-at a now n p j ++ record { top = t; low = x } ∷ []) m in
       record {
         inside = within-trans (w .inside) i;
         sum = ap (topped a cs) (take-more M j [] (omega arith)) ∙ topped-push a cs (take j M) (getD M j []) (columns-at a now n p j) t (w .sum) (ap (running a (a .zero) cs) (sym m) ∙ e) ∙ ap Some (sym q);
       }
 
   pub tops-end : (j : ℕ) (now : List C) → j ≡ k → Tops a cs n p k start j now → (topped a cs M ≡ Some (columns-at a now n p k)) × Within p (k * (n + 1)) start now
-  tops-end j now e w =
-      ( sym (ap (topped a cs) (take-all j M (let l = length-M in omega arith))) ∙ w .sum ∙ ap (λ (i : ℕ). Some (columns-at a now n p i)) e
-      , w .inside
-      )
+  tops-end j now e w = (
+    sym (ap (topped a cs) (take-all j M (let l = length-M in omega arith))) ∙ w .sum ∙ ap (λ (i : ℕ). Some (columns-at a now n p i)) e,
+    w .inside,
+  )
 
 -- the columns multiplied so far
 pub record Units {N C : Type 0} (a : Arithmetic N C) (n p k : ℕ) (start : List C) (j : ℕ) (now : List C) : Type 0 where
@@ -219,20 +219,20 @@ module _ {N C : Type 0} (a : Arithmetic N C) (n p k : ℕ) (start : List C) (roo
       record {
         inside = within-trans (w .inside) i;
         sum =
-          ap (normalised a) (take-more S j first-column (omega arith))
-          ∙ normalised-push a (take j S) (columns-at a now n p j) (getD S j first-column) c (w .sum) (normal-of j now (Some c) h w e)
-          ∙ ap Some (sym (columns-push a n p next j ∙ ap (λ (x : List (Column N)). x ++ c ∷ []) (columns-before a n p now next j (p + j * (n + 1)) o (omega arith) (omega arith))));
+            ap (normalised a) (take-more S j first-column (omega arith))
+            ∙ normalised-push a (take j S) (columns-at a now n p j) (getD S j first-column) c (w .sum) (normal-of j now (Some c) h w e)
+            ∙ ap Some (sym (columns-push a n p next j ∙ ap (λ (x : List (Column N)). x ++ c ∷ []) (columns-before a n p now next j (p + j * (n + 1)) o (omega arith) (omega arith))));
         rest = λ m lo hi.
-          let ne : m ≢ j = omega arith in
-          let y = column-in m k (n + 1) hi in
-          column-other a n now next (p + j * (n + 1)) (p + m * (n + 1)) o (omega arith) (omega arith) (columns-apart a n p k m j ne) ∙ w .rest m (omega arith) hi;
+            let ne : m ≢ j = omega arith in
+            let y = column-in m k (n + 1) hi in
+            column-other a n now next (p + j * (n + 1)) (p + m * (n + 1)) o (omega arith) (omega arith) (columns-apart a n p k m j ne) ∙ w .rest m (omega arith) hi;
       }
 
   pub units-end : (j : ℕ) (now : List C) → j ≡ k → Units a n p k start j now → (normalised a S ≡ Some (columns-at a now n p k)) × Within p (k * (n + 1)) start now
-  units-end j now e w =
-      ( sym (ap (normalised a) (take-all j S (let l = length-columns a n p k start in omega arith))) ∙ w .sum ∙ ap (λ (i : ℕ). Some (columns-at a now n p i)) e
-      , w .inside
-      )
+  units-end j now e w = (
+    sym (ap (normalised a) (take-all j S (let l = length-columns a n p k start in omega arith))) ∙ w .sum ∙ ap (λ (i : ℕ). Some (columns-at a now n p i)) e,
+    w .inside,
+  )
 
 -- the sum of the tops' sizes
 module _ {N C : Type 0} (a : Arithmetic N C) where

@@ -20,8 +20,8 @@ only-within {C} z p h P H cs ds (s, (l, e)) b lo hi =
       len = n;
       front = ap (take P) e ∙ take-append-le P (take p cs) _ (let k = length-take-le p cs (omega arith) in omega arith) ∙ take-take P p cs lo;
       back =
-        ext-getD z (drop (P + H) ds) (drop (P + H) cs) (simp length-drop (omega arith))
-        (λ i k. getD-drop (P + H) ds i z ∙ ap (λ (x : List C). getD x (P + H + i) z) e ∙ getD-over cs s p (P + H + i) z (omega arith) (inr (omega arith)) ∙ sym (getD-drop (P + H) cs i z));
+          ext-getD z (drop (P + H) ds) (drop (P + H) cs) (simp length-drop (omega arith))
+          (λ i k. getD-drop (P + H) ds i z ∙ ap (λ (x : List C). getD x (P + H + i) z) e ∙ getD-over cs s p (P + H + i) z (omega arith) (inr (omega arith)) ∙ sym (getD-drop (P + H) cs i z));
     }
 
 pub within-trans : {C : Type 0} {P H : ℕ} {cs ds es : List C} → Within P H cs ds → Within P H ds es → Within P H cs es

@@ -52,6 +52,7 @@ module _ {N C : Type 0} (a : Arithmetic N C) (n p k : ℕ) (place : p ≡ n * (n
     where
       front : take (main-cells n) ds ≡ take (main-cells n) cs
       front = ap (λ (i : ℕ). take i ds) (sym place) ∙ w .front ∙ ap (λ (i : ℕ). take i cs) place
+
       same : (o : Outcome N) → main-after a o n ds ≡ main-after a o n cs
       same (taken t) = refl
       same implied = front
@@ -106,13 +107,13 @@ columns-after {N} {C} a n p k es fs (s, (l, e)) room =
     let first = p + (n + 1) in
     ext-getD d (columns-at a fs n first k) (columns-at a es n first k) (length-columns a n first k fs ∙ sym (length-columns a n first k es))
     (λ j b.
-      let jk : j < k = let m = length-columns a n first k fs in omega arith in
-      let c = column-in j k (n + 1) jk in
-      let q = first + j * (n + 1) in
-      let t : number-at a fs q ≡ number-at a es q = ap (number a) (ap (λ (x : List C). getD x q z) e ∙ getD-over es s (p + 1) q z (omega arith) (inr (omega arith))) in
-      let u : numbers a (part (q + 1) n fs) ≡ numbers a (part (q + 1) n es) = ap (numbers a) (ap (part (q + 1) n) e ∙ part-other z es s (p + 1) (q + 1) n (omega arith) (omega arith) (inr (omega arith))) in
-      let v : column-at a fs n q ≡ column-at a es n q = λ i. record { top = t i; low = u i } in
-      column-of a n first k fs j d jk ∙ v ∙ sym (column-of a n first k es j d jk))
+    let jk : j < k = let m = length-columns a n first k fs in omega arith in
+    let c = column-in j k (n + 1) jk in
+    let q = first + j * (n + 1) in
+    let t : number-at a fs q ≡ number-at a es q = ap (number a) (ap (λ (x : List C). getD x q z) e ∙ getD-over es s (p + 1) q z (omega arith) (inr (omega arith))) in
+    let u : numbers a (part (q + 1) n fs) ≡ numbers a (part (q + 1) n es) = ap (numbers a) (ap (part (q + 1) n) e ∙ part-other z es s (p + 1) (q + 1) n (omega arith) (omega arith) (inr (omega arith))) in
+    let v : column-at a fs n q ≡ column-at a es n q = λ i. record { top = t i; low = u i } in
+    column-of a n first k fs j d jk ∙ v ∙ sym (column-of a n first k es j d jk))
 
 module _ {N C : Type 0} (a : Arithmetic N C) (n p k : ℕ) (cs : List C) (place : p ≡ n * (n + 1)) (few : k ≤ n) (room : p + ((n + 1) + k * (n + 1)) ≤ length cs) where
   abbrev O : Outcome N
@@ -177,7 +178,7 @@ module _ {N C : Type 0} (a : Arithmetic N C) (n p k : ℕ) (cs : List C) (place 
           let z = a .to-cell (a .zero) in
           let le = length-2 in
           let m : left-at a fs n p k l ≡ record { fixed = numbers a (part (p + 1) n fs); moves = map (λ c. c .low) (without (columns-at a es n (p + (n + 1)) k) l) }
-                = ap (λ (x : List (Column N)). record { fixed = numbers a (part (p + 1) n fs); moves = map (λ c. c .low) (without x l) }) (columns-after a n p k es fs o (omega arith)) in
+          = ap (λ (x : List (Column N)). record { fixed = numbers a (part (p + 1) n fs); moves = map (λ c. c .low) (without x l) }) (columns-after a n p k es fs o (omega arith)) in
           let w3 : Within p (work-cells a n k) es fs = only-within z (p + 1) n p (work-cells a n k) es fs o (omega arith) (omega arith) (omega arith) in
           let q : O ≡ taken (left-at a fs n p k l) = after-rounds ∙ e ∙ ap taken (sym m) in
           let w : Within p (work-cells a n k) cs fs = within-trans wide2 w3 in
@@ -196,7 +197,7 @@ module _ {N C : Type 0} (a : Arithmetic N C) (es : List N) (right : N) (n p k : 
   pub prepare-fails : (r : Result Verdict SheetFault) → r ≡ answer-of {N = N} overflow → (topped a es (moves-at a cs n k) ≡ None) ⊎ (column-B a es right (numbers a (take n cs)) ≡ None) → Settled a P n p k cs r ds
   prepare-fails r er e =
       let o : P ≡ overflow
-            = ⊎-elim (λ t. ap (λ (x : Option (List (Column N))). prepared a x (column-B a es right (numbers a (take n cs)))) t) (λ b. ap (prepared a (topped a es (moves-at a cs n k))) b ∙ none-B (topped a es (moves-at a cs n k))) e in
+      = ⊎-elim (λ t. ap (λ (x : Option (List (Column N))). prepared a x (column-B a es right (numbers a (take n cs)))) t) (λ b. ap (prepared a (topped a es (moves-at a cs n k))) b ∙ none-B (topped a es (moves-at a cs n k))) e in
       settled-kept a n p k place P r cs ds (er ∙ ap answer-of (sym o)) (ap (λ (x : Outcome N). main-after a x n cs) o) w
 
   module _ (et : topped a es (moves-at a cs n k) ≡ Some (columns-at a ds n (p + (n + 1)) k)) (eb : column-B a es right (numbers a (take n cs)) ≡ Some (column-at a ds n p)) where
@@ -239,6 +240,7 @@ all-cells {N} {C} a o n p k cs ds es r place few room s e =
   where
     wide : (n + 1) + k * (n + 1) ≤ spare-cells n
     wide = let t = column-in k (n + 1) (n + 1) (omega arith) in omega arith
+
     back : (d : ℕ) → p + work-cells a n k + d ≡ needed n → drop (needed n) ds ≡ drop (needed n) cs
     back d f =
         ap (λ (i : ℕ). drop i ds) (sym f) ∙ sym (drop-drop d (p + work-cells a n k) ds) ∙ ap (drop d) (s .back) ∙ drop-drop d (p + work-cells a n k) cs ∙ ap (λ (i : ℕ). drop i cs) f

@@ -37,9 +37,9 @@ module _ {N C : Type 0} (a : Arithmetic N C) (cs : List N) (right : N) (n p k : 
   prepared es s t et e1 e2 (c, o) =
       let le = w .len in
       let z = a .to-cell (a .zero) in
-      let T : columns-at a es n (p + (n + 1)) k ≡ columns-at a ds n (p + (n + 1)) k = columns-kept a n (p + (n + 1)) k ds es (omega arith) p o (omega arith) in
-      ( et ∙ ap Some (sym T)
-      , ap (λ (x : Option N). then x (λ t. Some (record { top = t; low = numbers a (take n start) }))) (sym (λ i. running a (e1 i) cs (fixed-same i)) ∙ e2)
-        ∙ ap Some (sym (c ∙ ap (λ (x : List N). record { top = t; low = x }) fixed-same))
-      , within-trans wide (only-within z p (n + 1) p ((n + 1) + k * (n + 1)) ds es o (omega arith) (omega arith) (omega arith))
+      let T : columns-at a es n (p + (n + 1)) k ≡ columns-at a ds n (p + (n + 1)) k = columns-kept a n (p + (n + 1)) k ds es (omega arith) p o (omega arith) in (
+        et ∙ ap Some (sym T),
+        ap (λ (x : Option N). then x (λ t. Some (record { top = t; low = numbers a (take n start) }))) (sym (λ i. running a (e1 i) cs (fixed-same i)) ∙ e2)
+            ∙ ap Some (sym (c ∙ ap (λ (x : List N). record { top = t; low = x }) fixed-same)),
+        within-trans wide (only-within z p (n + 1) p ((n + 1) + k * (n + 1)) ds es o (omega arith) (omega arith) (omega arith)),
       )

@@ -55,8 +55,8 @@ module _ {N C : Type 0} (a : Arithmetic N C) (n : ℕ) where
           let d = column-at a cs n 0 in
           ext-getD d (columns-at a ds n first k) (columns-at a cs n first k) (length-columns ds ∙ sym (length-columns cs))
           (λ j b.
-            let jk : j < k = let l = length-columns ds in omega arith in
-            column-of ds j d jk ∙ column-other cs ds p (first + j * (n + 1)) o (omega arith) (in-room j jk) (inr (omega arith)) ∙ sym (column-of cs j d jk))
+          let jk : j < k = let l = length-columns ds in omega arith in
+          column-of ds j d jk ∙ column-other cs ds p (first + j * (n + 1)) o (omega arith) (in-room j jk) (inr (omega arith)) ∙ sym (column-of cs j d jk))
 
       -- a change of one column leaves the others
       pub columns-set : (l : ℕ) → l < k → Only (first + l * (n + 1)) (n + 1) cs ds → columns-at a ds n first k ≡ set (columns-at a cs n first k) l (column-at a ds n (first + l * (n + 1)))
@@ -66,12 +66,12 @@ module _ {N C : Type 0} (a : Arithmetic N C) (n : ℕ) where
           let T = columns-at a cs n first k in
           ext-getD d (columns-at a ds n first k) (set T l c) (length-columns ds ∙ sym (length-set T l c ∙ length-columns cs))
           (λ j b.
-            let jk : j < k = let m = length-columns ds in omega arith in
-            column-of ds j d jk
-            ∙ ⊎-elim
-              (λ e. ap (λ (i : ℕ). column-at a ds n (first + i * (n + 1))) e ∙ sym (ap (λ (i : ℕ). getD (set T l c) i d) e ∙ getD-set-same T l c d (let m = length-columns cs in omega arith)))
-              (λ ne. column-other cs ds (first + l * (n + 1)) (first + j * (n + 1)) o (in-room l h) (in-room j jk) (columns-apart j l ne) ∙ sym (getD-set-other T l j c d ne ∙ column-of cs j d jk))
-              (cases-eq j l))
+          let jk : j < k = let m = length-columns ds in omega arith in
+          column-of ds j d jk
+          ∙ ⊎-elim
+          (λ e. ap (λ (i : ℕ). column-at a ds n (first + i * (n + 1))) e ∙ sym (ap (λ (i : ℕ). getD (set T l c) i d) e ∙ getD-set-same T l c d (let m = length-columns cs in omega arith)))
+          (λ ne. column-other cs ds (first + l * (n + 1)) (first + j * (n + 1)) o (in-room l h) (in-room j jk) (columns-apart j l ne) ∙ sym (getD-set-other T l j c d ne ∙ column-of cs j d jk))
+          (cases-eq j l))
 
 -- one round, as the columns have it
 module _ {N C : Type 0} (a : Arithmetic N C) (n p k l r : ℕ) (cs : List C) (room : p + ((n + 1) + k * (n + 1)) ≤ length cs) (hl : l < k) (hr : r < k) (ne : l ≢ r) where
@@ -117,15 +117,15 @@ module _ {N C : Type 0} (a : Arithmetic N C) (n p k l r : ℕ) (cs : List C) (ro
         ap (λ (o : Option (Column N)). then o (λ b. then (reduced a (at a T l) (at a T r)) (λ d. Some (record { B = b; columns = set T l d }))))
         (ap (reduced a (column-at a cs n p)) (column-of a n first k cs l blank-at hl) ∙ o1)
         ∙ (let x = column-of a n first k cs l blank-at hl ∙ sym same-l in let y = column-of a n first k cs r blank-at hr ∙ sym same-r in
-          λ j. then (reduced a (x j) (y j)) (λ d. Some (record { B = column-at a ds n p; columns = set T l d })))
+        λ j. then (reduced a (x j) (y j)) (λ d. Some (record { B = column-at a ds n p; columns = set T l d })))
 
     pub round-came : (res : Result Unit Overflow) (es : List C) → Came-at a (reduced a (column-at a ds n at-l) (column-at a ds n at-r)) n at-l ds res es → Worked a (round a (work-at a cs n p k) l r) n p k cs res es
     round-came (Err _) es (e, w2) =
         let z = a .to-cell (a .zero) in
         let le = length-ds in
-        let x = column-in l k (n + 1) hl in
-        ( half ∙ ap (λ (o : Option (Column N)). then o (λ d. Some (record { B = column-at a ds n p; columns = set T l d }))) e
-        , within-trans (only-within z p (n + 1) p ((n + 1) + k * (n + 1)) cs ds only1 (omega arith) (omega arith) (omega arith)) (within-wider w2 (omega arith) (omega arith))
+        let x = column-in l k (n + 1) hl in (
+          half ∙ ap (λ (o : Option (Column N)). then o (λ d. Some (record { B = column-at a ds n p; columns = set T l d }))) e,
+          within-trans (only-within z p (n + 1) p ((n + 1) + k * (n + 1)) cs ds only1 (omega arith) (omega arith) (omega arith)) (within-wider w2 (omega arith) (omega arith)),
         )
     round-came (Ok _) es (o2, only2) =
         let z = a .to-cell (a .zero) in
@@ -133,8 +133,8 @@ module _ {N C : Type 0} (a : Arithmetic N C) (n p k l r : ℕ) (cs : List C) (ro
         let x = column-in l k (n + 1) hl in
         let b : column-at a es n p ≡ column-at a ds n p = column-other a n ds es at-l p only2 (omega arith) (omega arith) (inl (omega arith)) in
         let t : columns-at a es n first k ≡ set T l (column-at a es n at-l)
-              = columns-set a n first k ds es (omega arith) l hl only2 ∙ ap (λ (u : List (Column N)). set u l (column-at a es n at-l)) (columns-kept a n first k cs ds room-first p only1 (omega arith)) in
-        let w : record { B = column-at a ds n p; columns = set T l (column-at a es n at-l) } ≡ work-at a es n p k = sym (λ j. record { B = b j; columns = t j }) in
-        ( half ∙ ap (λ (o : Option (Column N)). then o (λ d. Some (record { B = column-at a ds n p; columns = set T l d }))) o2 ∙ ap Some w
-        , within-trans (only-within z p (n + 1) p ((n + 1) + k * (n + 1)) cs ds only1 (omega arith) (omega arith) (omega arith)) (only-within z at-l (n + 1) p ((n + 1) + k * (n + 1)) ds es only2 (omega arith) (omega arith) (omega arith))
+        = columns-set a n first k ds es (omega arith) l hl only2 ∙ ap (λ (u : List (Column N)). set u l (column-at a es n at-l)) (columns-kept a n first k cs ds room-first p only1 (omega arith)) in
+        let w : record { B = column-at a ds n p; columns = set T l (column-at a es n at-l) } ≡ work-at a es n p k = sym (λ j. record { B = b j; columns = t j }) in (
+          half ∙ ap (λ (o : Option (Column N)). then o (λ d. Some (record { B = column-at a ds n p; columns = set T l d }))) o2 ∙ ap Some w,
+          within-trans (only-within z p (n + 1) p ((n + 1) + k * (n + 1)) cs ds only1 (omega arith) (omega arith) (omega arith)) (only-within z at-l (n + 1) p ((n + 1) + k * (n + 1)) ds es only2 (omega arith) (omega arith) (omega arith)),
         )

@@ -76,7 +76,7 @@ module _ {N C : Type 0} (a : Arithmetic N C) (n p k l : ℕ) (cs : List C) (room
             let lv = length-numbers-part a cs (p + (n + 1) + l * (n + 1) + 1) n (omega arith) in
             let ly : length ys ≡ n = length-adds a (numbers a (part (p + 1) n cs)) (P .low) ys (a .negative q) (lu ∙ sym lv) e ∙ lu in
             let lh : length (held a ys) ≡ n = length-map ys (a .to-cell) ∙ ly in
-            let f : numbers a (part (p + 1) n ds) ≡ ys = ap (λ (x : List C). numbers a (part (p + 1) n x)) s ∙ ap (numbers a) (part-over cs (held a ys) (p + 1) n (omega arith) lh) ∙ numbers-held a laws ys in
-            ( finish-z ∙ ap (closed a T l) e ∙ ap (λ (x : List N). taken (record { fixed = x; moves = map (λ c. c .low) (without T l) })) (sym f)
-            , (held a ys, (lh, s))
+            let f : numbers a (part (p + 1) n ds) ≡ ys = ap (λ (x : List C). numbers a (part (p + 1) n x)) s ∙ ap (numbers a) (part-over cs (held a ys) (p + 1) n (omega arith) lh) ∙ numbers-held a laws ys in (
+              finish-z ∙ ap (closed a T l) e ∙ ap (λ (x : List N). taken (record { fixed = x; moves = map (λ c. c .low) (without T l) })) (sym f),
+              (held a ys, (lh, s)),
             )

@@ -40,11 +40,11 @@ part-other z cells s p r h k m o =
     let lb : length (part r h cells) ≡ h = simp (length-take, length-drop) (omega arith) in
     ext-getD z (part r h (over cells p s)) (part r h cells) (la ∙ sym lb)
     (λ i b.
-      let ih : i < h = omega arith in
-      getD-take h (drop r (over cells p s)) i z ih
-      ∙ getD-drop r (over cells p s) i z
-      ∙ getD-over cells s p (r + i) z (omega arith) (⊎-elim (λ q. inl (omega arith)) (λ q. inr (omega arith)) o)
-      ∙ sym (getD-take h (drop r cells) i z ih ∙ getD-drop r cells i z))
+    let ih : i < h = omega arith in
+    getD-take h (drop r (over cells p s)) i z ih
+    ∙ getD-drop r (over cells p s) i z
+    ∙ getD-over cells s p (r + i) z (omega arith) (⊎-elim (λ q. inl (omega arith)) (λ q. inr (omega arith)) o)
+    ∙ sym (getD-take h (drop r cells) i z ih ∙ getD-drop r cells i z))
 
 module _ {N C : Type 0} (a : Arithmetic N C) where
   abbrev pub listed : Column N → List N
@@ -109,8 +109,8 @@ module _ {N C : Type 0} (a : Arithmetic N C) where
     combined-came c d q u v cells left n to (Ok _) h eu ev lu lv w =
         let ys = w .0 in
         let s = adds-some c d q ys (sym (λ j. adds a (eu j) q (ev j)) ∙ w .1 .0) in
-        let l : length ys ≡ n + 1 = length-adds u v ys q (lu ∙ sym lv) (w .1 .0) ∙ lu in
-        ( s .1 .0 ∙ ap Some (sym (column-put cells left n to (s .0) ys h l (s .1 .1) (w .1 .1)))
-        , (held a ys, (length-map ys (a .to-cell) ∙ l, w .1 .1))
+        let l : length ys ≡ n + 1 = length-adds u v ys q (lu ∙ sym lv) (w .1 .0) ∙ lu in (
+          s .1 .0 ∙ ap Some (sym (column-put cells left n to (s .0) ys h l (s .1 .1) (w .1 .1))),
+          (held a ys, (length-map ys (a .to-cell) ∙ l, w .1 .1)),
         )
     combined-came c d q u v cells left n to (Err _) h eu ev lu lv w = (adds-nothing c d q (sym (λ j. adds a (eu j) q (ev j)) ∙ w .0), w .1)

@@ -32,6 +32,7 @@ largest-same f g s (suc n) h =
   where
     best-below : (o : Option ℕ) → largest-of g s n ≡ o → (b : ℕ) → o ≡ Some b → b < n
     best-below o e b q = best-some g s n b (e ∙ q) .0
+
     bigger : (o : Option ℕ) → ((b : ℕ) → o ≡ Some b → b < n) → larger f n o ≡ larger g n o
     bigger None w = refl
     bigger (Some b) w = let x = h b (let c = w b refl in omega arith) in let y = h n (omega arith) in λ k. Some (cond (ltb (x k) (y k)) n b)
@@ -112,6 +113,7 @@ module _ {N C : Type 0} (a : Arithmetic N C) (laws : Laws a) (n p k : ℕ) where
           go true o e = cc
           go false None e = let z : _≡_ {A = ℕ} 0 1 = cc in absurd (omega arith)
           go false (Some v) e = let z : _≡_ {A = ℕ} 0 1 = cc in absurd (omega arith)
+
       by : (o : Option ℕ) → pivot-of a (columns-at a cs n (p + (n + 1)) k) ≡ o → turn-at a (work-at a cs n p k) o ≡ stop l → l < k
       by None q e = let z : _≡_ {A = ℕ} 0 1 = cc in absurd (omega arith)
       by (Some m) q e =

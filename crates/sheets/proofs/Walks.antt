@@ -159,11 +159,11 @@ module _ {N C : Type 0} (a : Arithmetic N C) (q : N) (keep : Bool) (cells : List
         long = length-push (w .ys) x ∙ ap (λ (n : ℕ). n + 1) (w .long);
         sum = adds-more a q U V i (a .zero) (omega arith) (omega arith) (w .ys) x (w .sum) (sym (product i left c d w k e f) ∙ p);
         stand =
-          s
-          ∙ ap (λ (t : List C). set t (to + i) (a .to-cell x)) (w .stand)
-          ∙ ap (λ (n : ℕ). set (over cells to (held a (w .ys))) (to + n) (a .to-cell x)) (sym l)
-          ∙ over-push cells (held a (w .ys)) to (a .to-cell x) (omega arith)
-          ∙ ap (over cells to) (sym (map-append (a .to-cell) (w .ys) (x ∷ [])));
+            s
+            ∙ ap (λ (t : List C). set t (to + i) (a .to-cell x)) (w .stand)
+            ∙ ap (λ (n : ℕ). set (over cells to (held a (w .ys))) (to + n) (a .to-cell x)) (sym l)
+            ∙ over-push cells (held a (w .ys)) to (a .to-cell x) (omega arith)
+            ∙ ap (over cells to) (sym (map-append (a .to-cell) (w .ys) (x ∷ [])));
       }
 
   pub walk-stop : (i : ℕ) (left : List C) (c d : N) → So-far i left → i < h → c ≡ cond keep (number-at a left (to + i)) (a .zero) → d ≡ number-at a left (from + i)
@@ -196,9 +196,9 @@ module _ {N C : Type 0} (a : Arithmetic N C) (cells : List C) (to : ℕ) where
         let ln = length-numbers-part a cells from n hf in
         let l : length (held a (take i Numbers)) ≡ i = length-map (take i Numbers) (a .to-cell) ∙ length-take-le i Numbers (omega arith) in
         let v : x ≡ getD Numbers i (a .zero)
-              = r
-              ∙ ap (number a) (ap (λ (t : List C). getD t (from + i) z) s ∙ getD-over cells (held a (take i Numbers)) to (from + i) z (omega arith) (⊎-elim (λ b. inr (omega arith)) (λ b. inl (omega arith)) apart))
-              ∙ sym (number-of-part a cells from n i hf k) in
+        = r
+        ∙ ap (number a) (ap (λ (t : List C). getD t (from + i) z) s ∙ getD-over cells (held a (take i Numbers)) to (from + i) z (omega arith) (⊎-elim (λ b. inr (omega arith)) (λ b. inl (omega arith)) apart))
+        ∙ sym (number-of-part a cells from n i hf k) in
         let t : take i Numbers ++ x ∷ [] ≡ take (i + 1) Numbers = ap (λ (y : N). take i Numbers ++ y ∷ []) v ∙ sym (take-more Numbers i (a .zero) (omega arith)) in
         e
         ∙ ap (λ (y : List C). set y (to + i) (a .to-cell x)) s

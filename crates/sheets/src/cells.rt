@@ -31,7 +31,12 @@ pub(crate) fn write<K: Kind>(cells: &mut [K::Cell], i: usize, x: K)
 }
 
 // The running sum from `start` of coefficient × the number in the cells from `from` on.
-pub(crate) fn running_sum<K: Kind>(coefficients: &[K], cells: &[K::Cell], from: usize, start: K) -> Option<K>
+pub(crate) fn running_sum<K: Kind>(
+    coefficients: &[K],
+    cells: &[K::Cell],
+    from: usize,
+    start: K,
+) -> Option<K>
     requires { ⌜ from + length (now coefficients) ≤ length (now cells) ⌝ }
     ensures { λ r. ⌜ r ≡ running (K·Kind .arith) start (now (coefficients .entry)) (numbers (K·Kind .arith) (part from (length (now (coefficients .entry))) (now (cells .entry)))) ⌝ }
 {
@@ -73,7 +78,13 @@ pub(crate) fn top<K: Kind>(cells: &[K::Cell], first: usize, n: usize, count: usi
 }
 
 // The place, of `count` columns but `skip`, with the largest top by size, the lowest on a tie.
-pub(crate) fn largest<K: Kind>(cells: &[K::Cell], first: usize, n: usize, count: usize, skip: usize) -> Option<usize>
+pub(crate) fn largest<K: Kind>(
+    cells: &[K::Cell],
+    first: usize,
+    n: usize,
+    count: usize,
+    skip: usize,
+) -> Option<usize>
     requires { ⌜ first + count * (n + 1) ≤ length (now cells) ⌝ }
     ensures value { λ r. ⌜ r ≡ largest-of (top-size (K·Kind .arith) (now (cells .entry)) first n) skip count ⌝ }
     ensures within { λ r. ⌜ BySome r (Unit {0}) (λ b. b < count) ⌝ }
@@ -108,7 +119,14 @@ fn kept<K: Kind>(cells: &[K::Cell], i: usize, keep: bool) -> K
 }
 
 // Adds q × the numbers from `from` on to those from `to` on, or to zeros where those are not kept, from the top down.
-pub(crate) fn combine<K: Kind>(cells: &mut [K::Cell], to: usize, from: usize, height: usize, q: K, keep: bool) -> Result<(), Overflow>
+pub(crate) fn combine<K: Kind>(
+    cells: &mut [K::Cell],
+    to: usize,
+    from: usize,
+    height: usize,
+    q: K,
+    keep: bool,
+) -> Result<(), Overflow>
     requires to { ⌜ to + height ≤ length (now cells) ⌝ }
     requires from { ⌜ from + height ≤ length (now cells) ⌝ }
     requires apart { ⌜ (to ≤ from) ⊎ (from + height ≤ to) ⌝ }

@@ -18,7 +18,13 @@ use crate::cells::write;
 use kinds::kind::Kind;
 
 // Adds q × the column at `from` to the column at `to`.
-fn add_column<K: Kind>(cells: &mut [K::Cell], to: usize, from: usize, n: usize, q: K) -> Result<(), Overflow>
+fn add_column<K: Kind>(
+    cells: &mut [K::Cell],
+    to: usize,
+    from: usize,
+    n: usize,
+    q: K,
+) -> Result<(), Overflow>
     requires to { ⌜ to + (n + 1) ≤ length (now cells) ⌝ }
     requires from { ⌜ from + (n + 1) ≤ length (now cells) ⌝ }
     requires apart { ⌜ (to + (n + 1) ≤ from) ⊎ (from + (n + 1) ≤ to) ⌝ }
@@ -28,7 +34,12 @@ fn add_column<K: Kind>(cells: &mut [K::Cell], to: usize, from: usize, n: usize, 
 }
 
 // Multiplies the column at `at` by u.
-pub(crate) fn scale_column<K: Kind>(cells: &mut [K::Cell], at: usize, n: usize, u: K) -> Result<(), Overflow>
+pub(crate) fn scale_column<K: Kind>(
+    cells: &mut [K::Cell],
+    at: usize,
+    n: usize,
+    u: K,
+) -> Result<(), Overflow>
     requires { ⌜ at + (n + 1) ≤ length (now cells) ⌝ }
     ensures { λ r. ⌜ Came-at (K·Kind .arith) (adds-column (K·Kind .arith) (blank (K·Kind .arith) (column-at (K·Kind .arith) (now (cells .entry)) n at)) u (column-at (K·Kind .arith) (now (cells .entry)) n at)) n at (now (cells .entry)) r (now (cells .exit)) ⌝ }
 {
@@ -36,7 +47,12 @@ pub(crate) fn scale_column<K: Kind>(cells: &mut [K::Cell], at: usize, n: usize, 
 }
 
 // Takes from the column at `to` the column at `by` × the quotient of their tops.
-pub(crate) fn reduce<K: Kind>(cells: &mut [K::Cell], to: usize, by: usize, n: usize) -> Result<(), Overflow>
+pub(crate) fn reduce<K: Kind>(
+    cells: &mut [K::Cell],
+    to: usize,
+    by: usize,
+    n: usize,
+) -> Result<(), Overflow>
     requires to { ⌜ to + (n + 1) ≤ length (now cells) ⌝ }
     requires by { ⌜ by + (n + 1) ≤ length (now cells) ⌝ }
     requires apart { ⌜ (to + (n + 1) ≤ by) ⊎ (by + (n + 1) ≤ to) ⌝ }
@@ -61,7 +77,12 @@ pub(crate) fn lay_column<K: Kind>(cells: &mut [K::Cell], to: usize, top: K, from
 }
 
 // Lays the moves below their tops, the first at `first`: the top of each is the running sum of coefficient × entry.
-pub(crate) fn lay_moves<K: Kind>(coefficients: &[K], cells: &mut [K::Cell], first: usize, count: usize) -> Result<(), Overflow>
+pub(crate) fn lay_moves<K: Kind>(
+    coefficients: &[K],
+    cells: &mut [K::Cell],
+    first: usize,
+    count: usize,
+) -> Result<(), Overflow>
     requires main { ⌜ length (now coefficients) + count * length (now coefficients) ≤ first ⌝ }
     requires room { ⌜ first + count * (length (now coefficients) + 1) ≤ length (now cells) ⌝ }
     ensures { λ r. ⌜ Topped (K·Kind .arith) (now (coefficients .entry)) (length (now (coefficients .entry))) first count (now (cells .entry)) r (now (cells .exit)) ⌝ }
@@ -79,7 +100,12 @@ pub(crate) fn lay_moves<K: Kind>(coefficients: &[K], cells: &mut [K::Cell], firs
 }
 
 // Multiplies each column by the unit of its top.
-pub(crate) fn normalise<K: Kind>(cells: &mut [K::Cell], first: usize, n: usize, count: usize) -> Result<(), Overflow>
+pub(crate) fn normalise<K: Kind>(
+    cells: &mut [K::Cell],
+    first: usize,
+    n: usize,
+    count: usize,
+) -> Result<(), Overflow>
     requires { ⌜ first + count * (n + 1) ≤ length (now cells) ⌝ }
     ensures { λ r. ⌜ Normal (K·Kind .arith) n first count (now (cells .entry)) r (now (cells .exit)) ⌝ }
 {

@@ -18,7 +18,13 @@ use crate::cells::wipe;
 use kinds::kind::Kind;
 
 // Reduces B by the pivot: whether its top comes to 0, and then its entries are the new fixed plan.
-pub(crate) fn finish<K: Kind>(cells: &mut [K::Cell], at: usize, n: usize, count: usize, pivot: usize) -> Result<bool, Overflow>
+pub(crate) fn finish<K: Kind>(
+    cells: &mut [K::Cell],
+    at: usize,
+    n: usize,
+    count: usize,
+    pivot: usize,
+) -> Result<bool, Overflow>
     requires room { ⌜ at + work-cells (K·Kind .arith) n count ≤ length (now cells) ⌝ }
     requires pivot { ⌜ pivot < count ⌝ }
     ensures { λ r. ⌜ Finished (K·Kind .arith) (finished (K·Kind .arith) (Some (pivot, work-at (K·Kind .arith) (now (cells .entry)) n at count))) n at count pivot (now (cells .entry)) r (now (cells .exit)) ⌝ }
@@ -67,7 +73,13 @@ fn close_moves<K: Kind>(cells: &mut [K::Cell], at: usize, n: usize, count: usize
 
 // Writes back what a posting left in the columns: B's entries as the fixed plan, and the moves but the pivot; what is
 // left of the moves' cells holds zero.
-pub(crate) fn close_up<K: Kind>(cells: &mut [K::Cell], at: usize, n: usize, count: usize, pivot: usize)
+pub(crate) fn close_up<K: Kind>(
+    cells: &mut [K::Cell],
+    at: usize,
+    n: usize,
+    count: usize,
+    pivot: usize,
+)
     requires main { ⌜ n + n * n ≤ at ⌝ }
     requires few { ⌜ count ≤ n ⌝ }
     requires small { ⌜ n ≤ 24 ⌝ }

@@ -39,7 +39,13 @@ impl From<Overflow> for SheetFault as SheetFromOverflow {
 }
 
 // Lays column B and the moves' columns below their tops.
-fn prepare<K: Kind>(coefficients: &[K], right: K, cells: &mut [K::Cell], at: usize, count: usize) -> Result<(), Overflow>
+fn prepare<K: Kind>(
+    coefficients: &[K],
+    right: K,
+    cells: &mut [K::Cell],
+    at: usize,
+    count: usize,
+) -> Result<(), Overflow>
     requires main { ⌜ length (now coefficients) + count * length (now coefficients) ≤ at ⌝ }
     requires room { ⌜ at + work-cells (K·Kind .arith) (length (now coefficients)) count ≤ length (now cells) ⌝ }
     ensures { λ r. ⌜ Prepared (K·Kind .arith) (now (coefficients .entry)) right (length (now (coefficients .entry))) at count (now (cells .entry)) r (now (cells .exit)) ⌝ }
@@ -54,7 +60,12 @@ fn prepare<K: Kind>(coefficients: &[K], right: K, cells: &mut [K::Cell], at: usi
 }
 
 // Works the columns down to one pivot, and writes back what is left where the equation is taken.
-fn settle<K: Kind>(cells: &mut [K::Cell], at: usize, n: usize, count: usize) -> Result<Verdict, SheetFault>
+fn settle<K: Kind>(
+    cells: &mut [K::Cell],
+    at: usize,
+    n: usize,
+    count: usize,
+) -> Result<Verdict, SheetFault>
     requires place { ⌜ at ≡ n * (n + 1) ⌝ }
     requires few { ⌜ count ≤ n ⌝ }
     requires small { ⌜ n ≤ 24 ⌝ }
@@ -72,7 +83,13 @@ fn settle<K: Kind>(cells: &mut [K::Cell], at: usize, n: usize, count: usize) -> 
 }
 
 // Works a posting out in the spare cells, which are left as they may be.
-fn work<K: Kind>(coefficients: &[K], right: K, cells: &mut [K::Cell], at: usize, count: usize) -> Result<Verdict, SheetFault>
+fn work<K: Kind>(
+    coefficients: &[K],
+    right: K,
+    cells: &mut [K::Cell],
+    at: usize,
+    count: usize,
+) -> Result<Verdict, SheetFault>
     requires place { ⌜ at ≡ length (now coefficients) * (length (now coefficients) + 1) ⌝ }
     requires few { ⌜ count ≤ length (now coefficients) ⌝ }
     requires small { ⌜ length (now coefficients) ≤ 24 ⌝ }
@@ -91,7 +108,12 @@ fn work<K: Kind>(coefficients: &[K], right: K, cells: &mut [K::Cell], at: usize,
 }
 
 // Posts an equation's numbers to a sheet of n unknowns, n being the number of coefficients, and `count` moves.
-pub(crate) fn post_numbers<K: Kind>(coefficients: &[K], right: K, cells: &mut [K::Cell], count: usize) -> Result<Verdict, SheetFault>
+pub(crate) fn post_numbers<K: Kind>(
+    coefficients: &[K],
+    right: K,
+    cells: &mut [K::Cell],
+    count: usize,
+) -> Result<Verdict, SheetFault>
     requires few { ⌜ count ≤ length (now coefficients) ⌝ }
     requires small { ⌜ length (now coefficients) ≤ 24 ⌝ }
     requires room { ⌜ needed (length (now coefficients)) ≤ length (now cells) ⌝ }

@@ -12,7 +12,14 @@ use crate::columns::reduce;
 use kinds::kind::Kind;
 
 // Takes from B the pivot × the quotient of their tops, and then from the pivot the runner-up likewise.
-fn round<K: Kind>(cells: &mut [K::Cell], at: usize, n: usize, count: usize, pivot: usize, runner: usize) -> Result<(), Overflow>
+fn round<K: Kind>(
+    cells: &mut [K::Cell],
+    at: usize,
+    n: usize,
+    count: usize,
+    pivot: usize,
+    runner: usize,
+) -> Result<(), Overflow>
     requires room { ⌜ at + work-cells (K·Kind .arith) n count ≤ length (now cells) ⌝ }
     requires pivot { ⌜ pivot < count ⌝ }
     requires runner { ⌜ runner < count ⌝ }
@@ -27,7 +34,12 @@ fn round<K: Kind>(cells: &mut [K::Cell], at: usize, n: usize, count: usize, pivo
 }
 
 // One turn: the pivot's place where no runner-up is left, or None after a round.
-fn turn<K: Kind>(cells: &mut [K::Cell], at: usize, n: usize, count: usize) -> Result<Option<usize>, Overflow>
+fn turn<K: Kind>(
+    cells: &mut [K::Cell],
+    at: usize,
+    n: usize,
+    count: usize,
+) -> Result<Option<usize>, Overflow>
     requires { ⌜ at + work-cells (K·Kind .arith) n count ≤ length (now cells) ⌝ }
     ensures { λ r. ⌜ Turned (K·Kind .arith) (turned (K·Kind .arith) (work-at (K·Kind .arith) (now (cells .entry)) n at count)) n at count (now (cells .entry)) r (now (cells .exit)) ⌝ }
 {
@@ -46,7 +58,12 @@ fn turn<K: Kind>(cells: &mut [K::Cell], at: usize, n: usize, count: usize) -> Re
 }
 
 // The rounds, until no runner-up is left: the pivot's place then.
-pub(crate) fn rounds<K: Kind>(cells: &mut [K::Cell], at: usize, n: usize, count: usize) -> Result<usize, Overflow>
+pub(crate) fn rounds<K: Kind>(
+    cells: &mut [K::Cell],
+    at: usize,
+    n: usize,
+    count: usize,
+) -> Result<usize, Overflow>
     requires { ⌜ at + work-cells (K·Kind .arith) n count ≤ length (now cells) ⌝ }
     ensures { λ r. ⌜ Ended (K·Kind .arith) n at count (now (cells .entry)) r (now (cells .exit)) ⌝ }
 {

@@ -9,13 +9,13 @@ pub loop-i-holds : need.loop-i-holds
 loop-i-holds g c = walk-start (g .K·Kind .arith) (c .args .q) (c .args .keep) (c .args .cells .now) (c .args .to) (c .args .from) (c .args .height) (c .pre .to) (c .pre .from) (c .pre .apart)
 
 pub returns-in-rest : need.returns-in-rest
-returns-in-rest g c =
-    ( walk-stop (g .K·Kind .arith) (c .args .q) (c .args .keep) (c .args .cells .now) (c .args .to) (c .args .from) (c .args .height) (c .pre .to) (c .pre .from) (c .pre .apart)
-    (c .loop-i .i) (c .loop-i .cells) (c .kept-c .result) (c .read-d .result) (c .loop-i .inv) (c .loop-i-test .taken) (c .kept-c .ensures) (c .read-d .ensures) (sym (c .add-product .ensures) ∙ c .in-rest .is)
-    , only-within (g .K·Kind .arith .to-cell (g .K·Kind .arith .zero)) (c .args .to) (c .loop-i .i) (c .args .to) (c .args .height) (c .args .cells .now) (c .loop-i .cells)
+returns-in-rest g c = (
+  walk-stop (g .K·Kind .arith) (c .args .q) (c .args .keep) (c .args .cells .now) (c .args .to) (c .args .from) (c .args .height) (c .pre .to) (c .pre .from) (c .pre .apart)
+      (c .loop-i .i) (c .loop-i .cells) (c .kept-c .result) (c .read-d .result) (c .loop-i .inv) (c .loop-i-test .taken) (c .kept-c .ensures) (c .read-d .ensures) (sym (c .add-product .ensures) ∙ c .in-rest .is),
+  only-within (g .K·Kind .arith .to-cell (g .K·Kind .arith .zero)) (c .args .to) (c .loop-i .i) (c .args .to) (c .args .height) (c .args .cells .now) (c .loop-i .cells)
       (walk-only (g .K·Kind .arith) (c .args .q) (c .args .keep) (c .args .cells .now) (c .args .to) (c .args .from) (c .args .height) (c .pre .to) (c .pre .from) (c .pre .apart) (c .loop-i .i) (c .loop-i .cells) (c .loop-i .inv))
-      (omega (arith, c .pre .to)) (omega arith) (omega arith)
-    )
+      (omega (arith, c .pre .to)) (omega arith) (omega arith),
+)
 
 pub loop-i-again : need.loop-i-again
 loop-i-again g c =

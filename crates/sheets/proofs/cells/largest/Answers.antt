@@ -29,7 +29,8 @@ loop-j-again g c =
     let n = c .loop-j .j in
     let b = c .loop-j .best in
     elim (c .if-j-skip .came) [
-      then-j-skip·in-None w ↦ w .best-is ∙ step-first f s n b (w .if-j-skip .taken) (c .loop-j .inv) (w .in-None .is)
-    | then-j-skip·in-Some·then-smaller w ↦ w .best-is ∙ step-better f s n (w .in-Some .b) b (w .if-j-skip .taken) (c .loop-j .inv) (w .in-Some .is) (cc)
-    | then-j-skip·in-Some·else-smaller w ↦ w .best-is ∙ step-keep f s n (w .in-Some .b) b (w .if-j-skip .taken) (c .loop-j .inv) (w .in-Some .is) (cc)
-    | else-j-skip w ↦ w .best-is ∙ c .loop-j .inv ∙ sym (step-skip f s n (w .if-j-skip .left)) ]
+      | then-j-skip·in-None w ↦ w .best-is ∙ step-first f s n b (w .if-j-skip .taken) (c .loop-j .inv) (w .in-None .is)
+      | then-j-skip·in-Some·then-smaller w ↦ w .best-is ∙ step-better f s n (w .in-Some .b) b (w .if-j-skip .taken) (c .loop-j .inv) (w .in-Some .is) (cc)
+      | then-j-skip·in-Some·else-smaller w ↦ w .best-is ∙ step-keep f s n (w .in-Some .b) b (w .if-j-skip .taken) (c .loop-j .inv) (w .in-Some .is) (cc)
+      | else-j-skip w ↦ w .best-is ∙ c .loop-j .inv ∙ sym (step-skip f s n (w .if-j-skip .left))
+    ]

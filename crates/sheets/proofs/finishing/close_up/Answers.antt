@@ -33,6 +33,6 @@ returns g c =
     let F = numbers a (part (p + 1) n cs) in
     let lf : length (held a F) ≡ n = length-map F (a .to-cell) ∙ length-numbers-part a cs (p + 1) n (omega (arith, c .pre .room)) in
     let t : columns-at a (c .copy .last .cells) n (p + (n + 1)) k ≡ columns-at a cs n (p + (n + 1)) k
-          = ap (λ (x : List (g .K·Cell .Denot)). columns-at a x n (p + (n + 1)) k) (c .copy .ensures) ∙ columns-behind a n (p + (n + 1)) k cs (held a F) (omega arith) (omega (arith, c .pre .room)) in
+    = ap (λ (x : List (g .K·Cell .Denot)). columns-at a x n (p + (n + 1)) k) (c .copy .ensures) ∙ columns-behind a n (p + (n + 1)) k cs (held a F) (omega arith) (omega (arith, c .pre .room)) in
     closed-up a n p k l cs (c .pre .main) (c .pre .few) (c .pre .room) (c .pre .pivot) (c .copy .last .cells) (c .close-moves .last .cells) (c .wipe .last .cells) (c .copy .ensures)
     (ap (λ (x : List (Column (g .K .Denot))). map (λ c. c .low) (without x l)) t) (c .close-moves .ensures) (c .wipe .ensures)
