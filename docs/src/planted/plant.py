@@ -30,7 +30,8 @@ def main():
         run = subprocess.run(["rt", "check", crate], cwd=copy, capture_output=True, text=True)
         open(target, "w").write(text)
         out = run.stdout + run.stderr
-        where = re.search(r"(crates/\S+?:\d+:\d+)", out)
+        told = "\n".join(line for line in out.split("\n") if ": note:" not in line)
+        where = re.search(r"(crates/\S+?:\d+:\d+)", told)
         fault = re.search(r"rt: (\w+) (ran|wrote)[^\n]*", out) if run.returncode and "NOT PROVED" not in out else None
         tried += 1
         if run.returncode == 0:
