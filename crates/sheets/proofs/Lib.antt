@@ -1,4 +1,5 @@
 pub mod Closing
+pub mod Fresh
 pub mod Laying
 pub mod Limits
 pub mod Numbers
@@ -6,6 +7,7 @@ pub mod Outcomes
 pub mod Places
 pub mod Preparing
 pub mod Rounding
+pub mod Rows
 pub mod Settling
 pub mod Standing
 pub mod Turning

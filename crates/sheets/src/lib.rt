@@ -2,5 +2,6 @@
 mod cells;
 mod columns;
 mod finishing;
+mod opening;
 mod posting;
 mod rounds;
