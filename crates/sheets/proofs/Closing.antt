@@ -19,6 +19,7 @@ use Rattle.sheets.proofs.Laying.{over-append}
 use Rattle.sheets.proofs.Numbers.{length-numbers-part}
 use Rattle.sheets.proofs.Places.{column-in}
 use Rattle.sheets.proofs.Rounding.{column-of, length-columns}
+use Rattle.sheets.proofs.Rows.{length-so-far, length-rows, rows-start, rows-more, rows-end}
 use Rattle.sheets.proofs.Standing.{part-other, length-over}
 use Rattle.sheets.proofs.Walks.{over-nothing, getD-over}
 
@@ -75,9 +76,6 @@ module _ {N C : Type 0} (a : Arithmetic N C) (n p k l : ℕ) (start : List C) (m
   pub source-below : (j r : ℕ) → j < k - 1 → Source j l r → r < k
   source-below j r h s = move-left j r h s .0
 
-  abbrev So-far : ℕ → List N
-  So-far j = joined (λ m. m) (take j L)
-
   each-long : (j : ℕ) → j < k - 1 → length (getD L j []) ≡ n
   each-long j h = ⊎-elim (λ b. long (record { before = λ _. refl; behind = λ c. absurd (omega arith) })) (λ b. long (record { before = λ c. absurd (omega arith); behind = λ _. refl })) (cases-lt j l)
     where
@@ -87,44 +85,38 @@ module _ {N C : Type 0} (a : Arithmetic N C) (n p k l : ℕ) (start : List C) (m
           let c = column-in r k (n + 1) (m .0) in
           ap length (m .1) ∙ length-numbers-part a start (p + (n + 1) + r * (n + 1) + 1) n (omega arith)
 
-  so-far-push : (j : ℕ) → j < k - 1 → So-far (j + 1) ≡ So-far j ++ getD L j []
-  so-far-push j h = let ll = length-L in ap (joined (λ m. m)) (take-more L j [] (omega arith)) ∙ sym (joined-more (λ m. m) [] (take j L) (getD L j []))
-
-  length-so-far : (j : ℕ) → j ≤ k - 1 → length (So-far j) ≡ j * n
-  length-so-far zero h = omega arith
-  length-so-far (suc j) h =
-      let i = length-so-far j (omega arith) in
-      let e = each-long j (omega arith) in
-      let q = length-append (So-far j) (getD L j []) in
-      let m = suc-mul j n in
-      ap length (ap So-far (sym (add-one j)) ∙ so-far-push j (omega arith)) ∙ omega (arith, i, e, q, m)
+  each-left : (j : ℕ) → j < length L → length (getD L j []) ≡ n
+  each-left j h = let ll = length-L in each-long j (omega arith)
 
   pub square : n + (k - 1) * n ≤ p
   square = let m : (k - 1) * n ≤ n * n = mul-le-mul-right n (omega arith) in omega arith
 
+  room-left : n + length L * n ≤ length start
+  room-left = let m = ap (λ (i : ℕ). i * n) length-L in let sq = square in omega arith
+
+  abbrev So-far : ℕ → List N
+  So-far j = joined (λ m. m) (take j L)
+
   pub close-start : start ≡ over start n (held a (So-far 0))
-  close-start = sym (over-nothing start n)
+  close-start = rows-start a n L each-left start n
 
   pub close-more : (j r to from : ℕ) (now next : List C) → j < k - 1 → Source j l r → to ≡ n + j * n → from ≡ p + (n + 1) + r * (n + 1) → now ≡ over start n (held a (So-far j)) → next ≡ over now to (held a (numbers a (part (from + 1) n now))) → next ≡ over start n (held a (So-far (j + 1)))
   close-more j r to from now next h s et ef e f =
       let m = move-left j r h s in
       let c = column-in r k (n + 1) (m .0) in
-      let lh : length (held a (So-far j)) ≡ j * n = length-map (So-far j) (a .to-cell) ∙ length-so-far j (omega arith) in
+      let ll = length-L in
+      let lh : length (held a (So-far j)) ≡ j * n = length-so-far a n L each-left j (omega arith) in
       let sq = square in
       let jn : j * n ≤ (k - 1) * n = mul-le-mul-right n (omega arith) in
       let v : numbers a (part (from + 1) n now) ≡ getD L j []
       = ap (numbers a) ((λ i. part (ef i + 1) n (e i)) ∙ part-other (a .to-cell (a .zero)) start (held a (So-far j)) n (p + (n + 1) + r * (n + 1) + 1) n (omega arith) (omega arith) (inr (omega arith))) ∙ sym (m .1) in
-      let t : to ≡ n + length (held a (So-far j)) = omega arith in
-      f
-      ∙ (λ i. over (e i) (t i) (held a (v i)))
-      ∙ over-append start (held a (So-far j)) (held a (getD L j [])) n (omega arith)
-      ∙ ap (over start n) (sym (map-append (a .to-cell) (So-far j) (getD L j [])) ∙ ap (held a) (sym (so-far-push j h)))
+      rows-more a n L each-left start now next n to j room-left (omega arith) et e (f ∙ ap (λ (x : List N). over now to (held a x)) v)
 
   pub close-end : (j : ℕ) (now : List C) → j ≡ k - 1 → now ≡ over start n (held a (So-far j)) → now ≡ over start n (held a (joined (λ m. m) L))
-  close-end j now e s = s ∙ ap (λ (x : List (List N)). over start n (held a (joined (λ m. m) x))) (take-all j L (let ll = length-L in omega arith))
+  close-end j now e s = rows-end a n L each-left start now n j (e ∙ sym length-L) s
 
   pub length-moves : length (held a (joined (λ m. m) L)) ≡ (k - 1) * n
-  length-moves = length-map (joined (λ m. m) L) (a .to-cell) ∙ ap (λ (x : List (List N)). length (joined (λ m. m) x)) (sym (take-all (k - 1) L (let ll = length-L in omega arith))) ∙ length-so-far (k - 1) (omega arith)
+  length-moves = length-rows a n L each-left ∙ ap (λ (i : ℕ). i * n) length-L
 
   -- the fixed plan, the moves, and zeros behind them
   pub closed-up : (ds es fs : List C) → ds ≡ over start 0 (held a F) → left-at a ds n p k l .moves ≡ L → es ≡ over ds n (held a (joined (λ m. m) (left-at a ds n p k l .moves))) → fs ≡ over es (n + (k - 1) * n) (zero-cells a ((n - (k - 1)) * n))

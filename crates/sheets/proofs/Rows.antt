@@ -22,24 +22,27 @@ module _ {N C : Type 0} (a : Arithmetic N C) (n : ℕ) (rows : List (List N)) (e
   so-far-push : (j : ℕ) → j < length rows → So-far (j + 1) ≡ So-far j ++ getD rows j []
   so-far-push j h = ap (joined (λ m. m)) (take-more rows j [] h) ∙ sym (joined-more (λ m. m) [] (take j rows) (getD rows j []))
 
-  length-so-far : (j : ℕ) → j ≤ length rows → length (So-far j) ≡ j * n
-  length-so-far zero h = omega arith
-  length-so-far (suc j) h =
-      let i = length-so-far j (omega arith) in
+  length-joined : (j : ℕ) → j ≤ length rows → length (So-far j) ≡ j * n
+  length-joined zero h = omega arith
+  length-joined (suc j) h =
+      let i = length-joined j (omega arith) in
       let e = each j (omega arith) in
       let q = length-append (So-far j) (getD rows j []) in
       let m = suc-mul j n in
       ap length (ap So-far (sym (add-one j)) ∙ so-far-push j (omega arith)) ∙ omega (arith, i, e, q, m)
 
+  pub length-so-far : (j : ℕ) → j ≤ length rows → length (held a (So-far j)) ≡ j * n
+  length-so-far j h = length-map (So-far j) (a .to-cell) ∙ length-joined j h
+
   pub length-rows : length (held a (joined (λ m. m) rows)) ≡ length rows * n
-  length-rows = length-map (joined (λ m. m) rows) (a .to-cell) ∙ ap (λ (x : List (List N)). length (joined (λ m. m) x)) (sym (take-all (length rows) rows (omega arith))) ∙ length-so-far (length rows) (omega arith)
+  length-rows = ap (λ (x : List (List N)). length (held a (joined (λ m. m) x))) (sym (take-all (length rows) rows (omega arith))) ∙ length-so-far (length rows) (omega arith)
 
   pub rows-start : (start : List C) (p : ℕ) → start ≡ over start p (held a (So-far 0))
   rows-start start p = sym (over-nothing start p)
 
   pub rows-more : (start now next : List C) (p to j : ℕ) → p + length rows * n ≤ length start → j < length rows → to ≡ p + j * n → now ≡ over start p (held a (So-far j)) → next ≡ over now to (held a (getD rows j [])) → next ≡ over start p (held a (So-far (j + 1)))
   rows-more start now next p to j room h et e f =
-      let lh : length (held a (So-far j)) ≡ j * n = length-map (So-far j) (a .to-cell) ∙ length-so-far j (omega arith) in
+      let lh = length-so-far j (omega arith) in
       let jn : j * n ≤ length rows * n = mul-le-mul-right n (omega arith) in
       let t : to ≡ p + length (held a (So-far j)) = omega arith in
       f
