@@ -2,3 +2,4 @@ pub mod Cells
 pub mod Combining
 pub mod Posted
 pub mod Work
+pub mod Sheet

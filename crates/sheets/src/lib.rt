@@ -5,3 +5,5 @@ mod finishing;
 mod opening;
 mod posting;
 mod rounds;
+pub mod shape;
+pub mod sheet;
