@@ -1,3 +1,4 @@
+pub mod Admitted
 pub mod Closing
 pub mod Fresh
 pub mod Laying
