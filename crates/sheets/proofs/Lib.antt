@@ -1,4 +1,3 @@
-pub mod Admitted
 pub mod Closing
 pub mod Fresh
 pub mod Laying

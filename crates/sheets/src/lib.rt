@@ -7,4 +7,3 @@ mod posting;
 mod rounds;
 pub mod shape;
 pub mod sheet;
-mod words;
