@@ -1,4 +1,4 @@
-// Sheets over lent cells: check, opening, posting and showing, for every kind of number alike.
+// Sheets over lent cells, for every kind of number alike: check and opening, and the work of a posting.
 mod cells;
 mod columns;
 mod finishing;
