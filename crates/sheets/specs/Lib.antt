@@ -3,3 +3,4 @@ pub mod Combining
 pub mod Posted
 pub mod Work
 pub mod Sheet
+pub mod Words

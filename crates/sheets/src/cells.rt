@@ -7,8 +7,10 @@ ghost use lib.ListN.{length, set};
 ghost use Rattle.plans.specs.Posting.{running, adds, largest-of};
 ghost use Rattle.sheets.specs.Combining.{base, Combined};
 ghost use Rattle.sheets.specs.Cells.{part, number-at, numbers, held, zero-cells, top-size};
+ghost use Rattle.sheets.specs.Words.{numbers-of};
 ghost use Rattle.lines.specs.Page.{over};
 ghost use Rattle.std.specs.Options.{Cases as BySome};
+use crate::words::word_number;
 use kinds::kind::Kind;
 
 // The number in cell i; a cell that fails its check counts as zero.
@@ -32,17 +34,18 @@ pub(crate) fn write<K: Kind>(cells: &mut [K::Cell], i: usize, x: K)
 
 // The running sum from `start` of coefficient × the number in the cells from `from` on.
 pub(crate) fn running_sum<K: Kind>(
-    coefficients: &[K],
+    coefficients: &[i32],
     cells: &[K::Cell],
     from: usize,
     start: K,
 ) -> Option<K>
     requires { ⌜ from + length (now coefficients) ≤ length (now cells) ⌝ }
-    ensures { λ r. ⌜ r ≡ running (K·Kind .arith) start (now (coefficients .entry)) (numbers (K·Kind .arith) (part from (length (now (coefficients .entry))) (now (cells .entry)))) ⌝ }
+    ensures { λ r. ⌜ r ≡ running (K·Kind .arith) start (numbers-of (K·Kind .arith) (now (coefficients .entry))) (numbers (K·Kind .arith) (part from (length (now (coefficients .entry))) (now (cells .entry)))) ⌝ }
 {
     let mut sum = start;
     for i in 0..coefficients.len() {
-        sum = sum.add_product(coefficients[i], read::<K>(cells, from + i))?;
+        let c = word_number::<K>(coefficients, i);
+        sum = sum.add_product(c, read::<K>(cells, from + i))?;
     }
     Some(sum)
 }

@@ -5,6 +5,7 @@ ghost use Prim.Native.Nat.{_+_, _*_, _<_, _≤_};
 ghost use lib.Dec.{eqb};
 ghost use lib.ListN.{length};
 ghost use Rattle.plans.specs.Posting.{adds-column, blank, reduced, total-size};
+ghost use Rattle.sheets.specs.Words.{numbers-of};
 ghost use Rattle.sheets.specs.Work.{column-at, columns-at, Came-at, Laid, Topped, Normal};
 use crate::cells::Overflow;
 use crate::cells::combine;
@@ -78,19 +79,19 @@ pub(crate) fn lay_column<K: Kind>(cells: &mut [K::Cell], to: usize, top: K, from
 
 // Lays the moves below their tops, the first at `first`: the top of each is the running sum of coefficient × entry.
 pub(crate) fn lay_moves<K: Kind>(
-    coefficients: &[K],
+    coefficients: &[i32],
     cells: &mut [K::Cell],
     first: usize,
     count: usize,
 ) -> Result<(), Overflow>
     requires main { ⌜ length (now coefficients) + count * length (now coefficients) ≤ first ⌝ }
     requires room { ⌜ first + count * (length (now coefficients) + 1) ≤ length (now cells) ⌝ }
-    ensures { λ r. ⌜ Topped (K·Kind .arith) (now (coefficients .entry)) (length (now (coefficients .entry))) first count (now (cells .entry)) r (now (cells .exit)) ⌝ }
+    ensures { λ r. ⌜ Topped (K·Kind .arith) (numbers-of (K·Kind .arith) (now (coefficients .entry))) (length (now (coefficients .entry))) first count (now (cells .entry)) r (now (cells .exit)) ⌝ }
 {
     let n = coefficients.len();
     for j in 0..count {
         let from = move_place(n, count, j, first);
-        let Some(top) = running_sum(coefficients, cells, from, K::zero()) else {
+        let Some(top) = running_sum::<K>(coefficients, cells, from, K::zero()) else {
             return Err(Overflow);
         };
         let to = place(first, n, count, j, cells.len());

@@ -7,3 +7,4 @@ mod posting;
 mod rounds;
 pub mod shape;
 pub mod sheet;
+mod words;

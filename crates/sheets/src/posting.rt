@@ -6,6 +6,7 @@ ghost use Rattle.faults.specs.declared.SheetFault.the-variants.{Overflow as Ove
 ghost use Rattle.plans.specs.Posting.{posted, worked, normalised};
 ghost use Rattle.sheets.specs.Cells.{needed, contents-in};
 ghost use Rattle.sheets.specs.Posted.{answer-of, cells-after, Prepared, Settled};
+ghost use Rattle.sheets.specs.Words.{numbers-of};
 ghost use Rattle.sheets.specs.Work.{work-cells, column-at, columns-at};
 use crate::cells::Overflow;
 use crate::cells::read;
@@ -40,7 +41,7 @@ impl From<Overflow> for SheetFault as SheetFromOverflow {
 
 // Lays column B and the moves' columns below their tops.
 fn prepare<K: Kind>(
-    coefficients: &[K],
+    coefficients: &[i32],
     right: K,
     cells: &mut [K::Cell],
     at: usize,
@@ -48,11 +49,11 @@ fn prepare<K: Kind>(
 ) -> Result<(), Overflow>
     requires main { ⌜ length (now coefficients) + count * length (now coefficients) ≤ at ⌝ }
     requires room { ⌜ at + work-cells (K·Kind .arith) (length (now coefficients)) count ≤ length (now cells) ⌝ }
-    ensures { λ r. ⌜ Prepared (K·Kind .arith) (now (coefficients .entry)) right (length (now (coefficients .entry))) at count (now (cells .entry)) r (now (cells .exit)) ⌝ }
+    ensures { λ r. ⌜ Prepared (K·Kind .arith) (numbers-of (K·Kind .arith) (now (coefficients .entry))) right (length (now (coefficients .entry))) at count (now (cells .entry)) r (now (cells .exit)) ⌝ }
 {
     let n = coefficients.len();
-    lay_moves(coefficients, cells, at + (n + 1), count)?;
-    let Some(top) = running_sum(coefficients, cells, 0, right.negative()) else {
+    lay_moves::<K>(coefficients, cells, at + (n + 1), count)?;
+    let Some(top) = running_sum::<K>(coefficients, cells, 0, right.negative()) else {
         return Err(Overflow);
     };
     lay_column(cells, at, top, 0, n);
@@ -84,7 +85,7 @@ fn settle<K: Kind>(
 
 // Works a posting out in the spare cells, which are left as they may be.
 fn work<K: Kind>(
-    coefficients: &[K],
+    coefficients: &[i32],
     right: K,
     cells: &mut [K::Cell],
     at: usize,
@@ -94,9 +95,9 @@ fn work<K: Kind>(
     requires few { ⌜ count ≤ length (now coefficients) ⌝ }
     requires small { ⌜ length (now coefficients) ≤ 24 ⌝ }
     requires room { ⌜ at + work-cells (K·Kind .arith) (length (now coefficients)) count ≤ length (now cells) ⌝ }
-    ensures { λ r. ⌜ Settled (K·Kind .arith) (posted (K·Kind .arith) (contents-in (K·Kind .arith) (length (now (coefficients .entry))) count (now (cells .entry))) (now (coefficients .entry)) right) (length (now (coefficients .entry))) at count (now (cells .entry)) r (now (cells .exit)) ⌝ }
+    ensures { λ r. ⌜ Settled (K·Kind .arith) (posted (K·Kind .arith) (contents-in (K·Kind .arith) (length (now (coefficients .entry))) count (now (cells .entry))) (numbers-of (K·Kind .arith) (now (coefficients .entry))) right) (length (now (coefficients .entry))) at count (now (cells .entry)) r (now (cells .exit)) ⌝ }
 {
-    prepare(coefficients, right, cells, at, count)?;
+    prepare::<K>(coefficients, right, cells, at, count)?;
     let n = coefficients.len();
     if all_zero::<K>(cells, at + (n + 1), n, count) {
         if read::<K>(cells, at).is_zero() {
@@ -109,7 +110,7 @@ fn work<K: Kind>(
 
 // Posts an equation's numbers to a sheet of n unknowns, n being the number of coefficients, and `count` moves.
 pub(crate) fn post_numbers<K: Kind>(
-    coefficients: &[K],
+    coefficients: &[i32],
     right: K,
     cells: &mut [K::Cell],
     count: usize,
@@ -117,12 +118,12 @@ pub(crate) fn post_numbers<K: Kind>(
     requires few { ⌜ count ≤ length (now coefficients) ⌝ }
     requires small { ⌜ length (now coefficients) ≤ 24 ⌝ }
     requires room { ⌜ needed (length (now coefficients)) ≤ length (now cells) ⌝ }
-    ensures value { λ r. ⌜ r ≡ answer-of (posted (K·Kind .arith) (contents-in (K·Kind .arith) (length (now (coefficients .entry))) count (now (cells .entry))) (now (coefficients .entry)) right) ⌝ }
-    ensures after { λ r. ⌜ now (cells .exit) ≡ cells-after (K·Kind .arith) (posted (K·Kind .arith) (contents-in (K·Kind .arith) (length (now (coefficients .entry))) count (now (cells .entry))) (now (coefficients .entry)) right) (length (now (coefficients .entry))) (now (cells .entry)) ⌝ }
+    ensures value { λ r. ⌜ r ≡ answer-of (posted (K·Kind .arith) (contents-in (K·Kind .arith) (length (now (coefficients .entry))) count (now (cells .entry))) (numbers-of (K·Kind .arith) (now (coefficients .entry))) right) ⌝ }
+    ensures after { λ r. ⌜ now (cells .exit) ≡ cells-after (K·Kind .arith) (posted (K·Kind .arith) (contents-in (K·Kind .arith) (length (now (coefficients .entry))) count (now (cells .entry))) (numbers-of (K·Kind .arith) (now (coefficients .entry))) right) (length (now (coefficients .entry))) (now (cells .entry)) ⌝ }
 {
     let n = coefficients.len();
     let at = n * (n + 1);
-    let answer = work(coefficients, right, cells, at, count);
+    let answer = work::<K>(coefficients, right, cells, at, count);
     wipe::<K>(cells, at, (n + 1) * (n + 1));
     answer
 }

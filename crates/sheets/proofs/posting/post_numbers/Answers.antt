@@ -7,6 +7,7 @@ use Rattle.sheets.proofs.Outcomes.{all-cells}
 use Rattle.sheets.proofs.Places.{column-in}
 use Rattle.plans.specs.Posting.{posted}
 use Rattle.sheets.specs.Cells.{contents-in}
+use Rattle.sheets.specs.Words.{numbers-of}
 use Rattle.sheets.proofs.posting.post_numbers.Needs as need
 
 pub work-answer-requires : need.work-answer-requires
@@ -18,8 +19,8 @@ work-answer-requires g c κs =
 pub returns : need.returns
 returns g c =
     let a = g .K·Kind .arith in
-    let cs = c .args .coefficients .now in
-    let n = length cs in
+    let cs = numbers-of a (c .args .coefficients .now) in
+    let n = length (c .args .coefficients .now) in
     let k = c .args .count in
     let start = c .args .cells .now in
     let s = c .work-answer .ensures in

@@ -1,0 +1,13 @@
+-- The numbers of words. Assumes nothing.
+use mathlib.Core.List.{List, map}
+use lib.IntN.{ℤ}
+use Rattle.kinds.specs.Kind.{Arithmetic}
+use Rattle.sheets.specs.Cells.{or-zero}
+
+module _ {N C : Type 0} (a : Arithmetic N C) where
+  -- the number of a word; a word that the kind does not admit counts as zero
+  abbrev pub number-of : ℤ → N
+  number-of word = or-zero a (a .read word)
+
+  abbrev pub numbers-of : List ℤ → List N
+  numbers-of = map number-of
