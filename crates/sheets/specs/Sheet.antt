@@ -1,20 +1,28 @@
 -- A sheet as its calls see it, when it can be opened, and what it is then. Assumes nothing.
-use Prim.Native.Nat.{ℕ}
+use Prim.Native.Nat.{ℕ, _+_, _-_}
 use mathlib.Core.Bool.{Bool, true, false, cond}
 use mathlib.Core.List.{List}
-use lib.Dec.{ltb}
+use lib.Dec.{eqb, ltb}
 use lib.IntN.{ℤ, pos, negsuc}
-use lib.ListN.{length}
+use lib.ListN.{length, getD, take}
 use denote.Ref.{now}
+use Rattle.std.specs.declared.option.Option.{Option}
+use Rattle.std.specs.declared.option.Option.the-variants.{Some, None}
 use Rattle.std.specs.declared.result.Result.{Result}
 use Rattle.std.specs.declared.result.Result.the-variants.{Ok, Err}
-use Rattle.faults.specs.declared.NumberFault.the-variants.{Unknowns, ListNumber}
+use Rattle.faults.specs.declared.NumberFault.the-variants.{Unknowns, ListNumber, NotAdmitted}
 use Rattle.faults.specs.declared.SheetFault.{SheetFault}
-use Rattle.faults.specs.declared.SheetFault.the-variants.{Number, FewCells}
+use Rattle.faults.specs.declared.SheetFault.the-variants.{Number, NoSheet, Count, FewCells}
 use Rattle.kinds.specs.Kind.{Arithmetic}
+use Rattle.lines.specs.Hex.{find}
+use Rattle.plans.specs.Posting.{Outcome, posted}
 use Rattle.plans.specs.Sheet.{new-sheet}
 use Rattle.sheets.specs.declared.sheet.Sheet.{Sheet}
-use Rattle.sheets.specs.Cells.{needed, sheet-cells}
+use Rattle.sheets.specs.declared.posting.Verdict.{Verdict}
+use Rattle.sheets.specs.declared.posting.Verdict.the-variants.{Taken, Implied}
+use Rattle.sheets.specs.Cells.{needed, sheet-cells, contents-in}
+use Rattle.sheets.specs.Posted.{answer-of, cells-after}
+use Rattle.sheets.specs.Words.{number-of, numbers-of, is-refused}
 
 pub record Model (C : Type 0) : Type 0 where
   pub cells : List C
@@ -57,3 +65,45 @@ module _ {N C : Type 0} (a : Arithmetic N C) where
 
   abbrev pub opened : ℤ → ℤ → List C → Model C
   opened n list cells = opened-by (asked n list (length cells)) cells
+
+-- whether a sheet has unknowns, and the cells that it needs
+abbrev pub stands : {C : Type 0} → Model C → Bool
+stands m = cond (eqb (m .unknowns) 0) false (cond (ltb (length (m .cells)) (needed (m .unknowns))) false true)
+
+-- the fault of a word that is not admitted, by its index
+abbrev pub word-fault : Option ℕ → Option SheetFault
+word-fault (Some i) = Some (Number (NotAdmitted i))
+word-fault None = None
+
+-- a posting that is taken leaves one move fewer
+abbrev pub moves-after : Result Verdict SheetFault → ℕ → ℕ
+moves-after (Ok Taken) k = k - 1
+moves-after (Ok Implied) k = k
+moves-after (Err fault) k = k
+
+module _ {N C : Type 0} (a : Arithmetic N C) where
+  -- why words cannot be posted, before any cell is touched
+  abbrev pub post-refusal : Model C → List ℤ → Option SheetFault
+  post-refusal m ws = cond (stands m) (cond (eqb (length ws) (m .unknowns + 1)) (word-fault (find (is-refused a) ws)) (Some Count)) (Some NoSheet)
+
+  -- what posting the coefficients and, behind them, the right side comes to
+  abbrev pub outcome-of : Model C → List ℤ → Outcome N
+  outcome-of m ws = posted a (contents-in a (m .unknowns) (m .moves) (m .cells)) (numbers-of a (take (m .unknowns) ws)) (number-of a (getD ws (m .unknowns) (pos 0)))
+
+  abbrev pub sheet-after : Model C → Outcome N → Model C
+  sheet-after m o = record { cells = cells-after a o (m .unknowns) (m .cells); unknowns = m .unknowns; moves = moves-after (answer-of o) (m .moves); list = m .list }
+
+  abbrev pub answer-unless : Option SheetFault → Outcome N → Result Verdict SheetFault
+  answer-unless (Some fault) o = Err fault
+  answer-unless None o = answer-of o
+
+  abbrev pub after-unless : Option SheetFault → Model C → Outcome N → Model C
+  after-unless (Some fault) m o = m
+  after-unless None m o = sheet-after m o
+
+  -- the answer to posting words, and the sheet that it leaves
+  abbrev pub post-answer : Model C → List ℤ → Result Verdict SheetFault
+  post-answer m ws = answer-unless (post-refusal m ws) (outcome-of m ws)
+
+  abbrev pub post-left : Model C → List ℤ → Model C
+  post-left m ws = after-unless (post-refusal m ws) m (outcome-of m ws)

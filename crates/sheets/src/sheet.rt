@@ -2,9 +2,13 @@
 ghost use mathlib.Core.Path.{_≡_};
 ghost use denote.Ref.{name};
 ghost use lib.ListN.{length};
-ghost use Rattle.sheets.specs.Sheet.{model, asked as asked-of, checked, opened};
+ghost use Rattle.sheets.specs.Sheet.{model, asked as asked-of, checked, opened, stands as stands-of, post-refusal as post-refusal-of, post-answer, post-left};
 use crate::opening::lay_new;
+use crate::posting::Verdict;
+use crate::posting::post_numbers;
 use crate::shape::Shape;
+use crate::words::first_refused;
+use crate::words::word_number;
 use faults::NumberFault;
 use faults::SheetFault;
 use kinds::kind::Kind;
@@ -70,5 +74,53 @@ impl<'a, K: Kind> Sheet<'a, K> {
                 list: 0,
             },
         }
+    }
+}
+
+impl<K: Kind> Sheet<'_, K> {
+    // Whether the sheet has unknowns, and the cells that it needs.
+    fn stands(&self) -> bool
+        ensures { λ r. ⌜ r ≡ stands-of (model (now (self .entry))) ⌝ }
+    {
+        let n = self.shape.unknowns;
+        n != 0 && self.cells.len() >= n * (n + 1) + (n + 1) * (n + 1)
+    }
+
+    // Why words cannot be posted, before any cell is touched.
+    fn post_refusal(&self, words: &[i32]) -> Option<SheetFault>
+        ensures { λ r. ⌜ r ≡ post-refusal-of (K·Kind .arith) (model (now (self .entry))) (now (words .entry)) ⌝ }
+    {
+        if !self.stands() {
+            return Some(SheetFault::NoSheet);
+        }
+        if words.len() != self.shape.unknowns + 1 {
+            return Some(SheetFault::Count);
+        }
+        match first_refused::<K>(words) {
+            Some(i) => Some(SheetFault::Number(NumberFault::NotAdmitted(i as u8))),
+            None => None,
+        }
+    }
+
+    // Posts an equation: its coefficients, and then its right side.
+    pub fn post(&mut self, words: &[i32]) -> Result<Verdict, SheetFault>
+        ensures held { λ _. ⌜ name (now (self .exit) .cells) ≡ name (now (self .entry) .cells) ⌝ }
+        ensures answer { λ r. ⌜ r ≡ post-answer (K·Kind .arith) (model (now (self .entry))) (now (words .entry)) ⌝ }
+        ensures left { λ _. ⌜ model (now (self .exit)) ≡ post-left (K·Kind .arith) (model (now (self .entry))) (now (words .entry)) ⌝ }
+    {
+        if let Some(fault) = self.post_refusal(words) {
+            return Err(fault);
+        }
+        let n = self.shape.unknowns;
+        let moves = self.shape.moves;
+        let right = word_number::<K>(words, n);
+        let answer = post_numbers::<K>(&words[..n], right, self.cells, moves);
+        if let Ok(Verdict::Taken) = answer {
+            self.shape = Shape {
+                unknowns: n,
+                moves: moves - 1,
+            };
+        }
+        answer
     }
 }

@@ -3,7 +3,9 @@ ghost use mathlib.Core.Path.{_≡_};
 ghost use Prim.Native.Nat.{_<_};
 ghost use lib.IntN.{pos};
 ghost use lib.ListN.{length, getD};
-ghost use Rattle.sheets.specs.Words.{number-of};
+ghost use Rattle.std.specs.Options.{Cases as BySome};
+ghost use Rattle.lines.specs.Hex.{find};
+ghost use Rattle.sheets.specs.Words.{number-of, is-refused};
 use kinds::kind::Kind;
 
 // The number of word i; a word that the kind does not admit counts as zero.
@@ -15,4 +17,28 @@ pub(crate) fn word_number<K: Kind>(words: &[i32], i: usize) -> K
         Some(x) => x,
         None => K::zero(),
     }
+}
+
+// Whether the kind does not admit word i.
+fn refused<K: Kind>(words: &[i32], i: usize) -> bool
+    requires { ⌜ i < length (now words) ⌝ }
+    ensures { λ r. ⌜ r ≡ is-refused (K·Kind .arith) (getD (now (words .entry)) i (pos 0)) ⌝ }
+{
+    match K::read(words[i]) {
+        Some(_) => false,
+        None => true,
+    }
+}
+
+// The index of the first word that the kind does not admit.
+pub(crate) fn first_refused<K: Kind>(words: &[i32]) -> Option<usize>
+    ensures value { λ r. ⌜ r ≡ find (is-refused (K·Kind .arith)) (now (words .entry)) ⌝ }
+    ensures bound { λ r. ⌜ BySome r (Unit {0}) (λ i. i < length (now (words .entry))) ⌝ }
+{
+    for i in 0..words.len() {
+        if refused::<K>(words, i) {
+            return Some(i);
+        }
+    }
+    None
 }
