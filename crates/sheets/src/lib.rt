@@ -1,4 +1,4 @@
-// Sheets over lent cells, for every kind of number alike: check and opening, and the work of a posting.
+// Sheets over lent cells, for every kind of number alike: check, opening and posting.
 mod cells;
 mod columns;
 mod finishing;
