@@ -6,12 +6,20 @@ ghost use Prim.Native.Nat.{_+_, _*_, _<_, _≤_};
 ghost use lib.ListN.{length, set};
 ghost use Rattle.plans.specs.Posting.{running, adds, largest-of};
 ghost use Rattle.sheets.specs.Combining.{base, Combined};
-ghost use Rattle.sheets.specs.Cells.{part, number-at, numbers, held, zero-cells, top-size};
+ghost use Rattle.sheets.specs.Cells.{needed, part, number-at, numbers, held, zero-cells, top-size};
 ghost use Rattle.sheets.specs.Words.{numbers-of};
 ghost use Rattle.lines.specs.Page.{over};
 ghost use Rattle.std.specs.Options.{Cases as BySome};
 use crate::words::word_number;
 use kinds::kind::Kind;
+
+// How many cells a sheet of n unknowns needs.
+pub(crate) fn needed_cells(n: usize) -> usize
+    requires { ⌜ n ≤ 24 ⌝ }
+    ensures { λ r. ⌜ r ≡ needed n ⌝ }
+{
+    n * (n + 1) + (n + 1) * (n + 1)
+}
 
 // The number in cell i; a cell that fails its check counts as zero.
 pub(crate) fn read<K: Kind>(cells: &[K::Cell], i: usize) -> K

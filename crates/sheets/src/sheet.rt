@@ -3,6 +3,7 @@ ghost use mathlib.Core.Path.{_≡_};
 ghost use denote.Ref.{name};
 ghost use lib.ListN.{length};
 ghost use Rattle.sheets.specs.Sheet.{model, asked as asked-of, checked, opened, stands as stands-of, post-refusal as post-refusal-of, post-answer, post-left};
+use crate::cells::needed_cells;
 use crate::opening::lay_new;
 use crate::posting::Verdict;
 use crate::posting::post_numbers;
@@ -33,7 +34,7 @@ fn asked(unknowns: i32, list: i32, len: usize) -> Result<(usize, u16), SheetFaul
         return Err(SheetFault::Number(NumberFault::ListNumber));
     }
     let n = unknowns as usize;
-    if len < n * (n + 1) + (n + 1) * (n + 1) {
+    if len < needed_cells(n) {
         return Err(SheetFault::FewCells);
     }
     Ok((n, list as u16))
@@ -83,7 +84,7 @@ impl<K: Kind> Sheet<'_, K> {
         ensures { λ r. ⌜ r ≡ stands-of (model (now (self .entry))) ⌝ }
     {
         let n = self.shape.unknowns;
-        n != 0 && self.cells.len() >= n * (n + 1) + (n + 1) * (n + 1)
+        n != 0 && self.cells.len() >= needed_cells(n)
     }
 
     // Why words cannot be posted, before any cell is touched.
