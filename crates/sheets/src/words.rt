@@ -24,10 +24,7 @@ fn refused<K: Kind>(words: &[i32], i: usize) -> bool
     requires { ⌜ i < length (now words) ⌝ }
     ensures { λ r. ⌜ r ≡ is-refused (K·Kind .arith) (getD (now (words .entry)) i (pos 0)) ⌝ }
 {
-    match K::read(words[i]) {
-        Some(_) => false,
-        None => true,
-    }
+    K::read(words[i]).is_none()
 }
 
 // The index of the first word that the kind does not admit.
