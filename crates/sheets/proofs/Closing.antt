@@ -1,14 +1,13 @@
 -- What a posting leaves, written back cell by cell.
 use Prim.Native.Nat.{ℕ, zero, suc, _+_, _-_, _*_, _<_, _≤_}
 use mathlib.Core.Path.{_≡_, refl, sym, ap, _∙_}
-use mathlib.Core.Logic.{_⊎_, inl, inr, ⊎-elim}
+use mathlib.Core.Logic.{inr, ⊎-elim}
 use mathlib.Core.List.{List, [], _∷_, _++_, map}
 use native.Mathlib.Omega.{arith}
-use native.Mathlib.Nat.{zero-add, suc-mul, mul-le-mul-right}
-use native.Mathlib.Numerals.{add-one}
-use lib.ListN.{length, getD, take, drop}
+use native.Mathlib.Nat.{zero-add, mul-le-mul-right}
+use lib.ListN.{length, getD, take}
 use Rattle.std.specs.shelf.Lists.{joined}
-use Rattle.std.proofs.shelf.Lists.{append-nil, append-assoc, length-append, length-map, length-replicate, length-take-le, take-all, take-more, map-append, getD-map, joined-more, ext-getD}
+use Rattle.std.proofs.shelf.Lists.{length-append, length-map, map-append, getD-map, ext-getD}
 use Rattle.std.proofs.shelf.Tests.{cases-lt}
 use Rattle.kinds.specs.Kind.{Arithmetic}
 use Rattle.lines.specs.Page.{over}
@@ -20,8 +19,8 @@ use Rattle.sheets.proofs.Numbers.{length-numbers-part}
 use Rattle.sheets.proofs.Places.{column-in}
 use Rattle.sheets.proofs.Rounding.{column-of, length-columns}
 use Rattle.sheets.proofs.Rows.{length-so-far, length-rows, rows-start, rows-more, rows-end}
-use Rattle.sheets.proofs.Standing.{part-other, length-over}
-use Rattle.sheets.proofs.Walks.{over-nothing, getD-over}
+use Rattle.sheets.proofs.Standing.{part-other}
+use Rattle.sheets.proofs.Walks.{getD-over}
 
 -- a list without one place
 length-without : {X : Type 0} (xs : List X) (l : ℕ) → l < length xs → suc (length (without xs l)) ≡ length xs

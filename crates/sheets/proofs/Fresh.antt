@@ -1,9 +1,9 @@
 -- A new sheet, laid cell by cell.
 use Prim.Native.Nat.{ℕ, zero, suc, _+_, _-_, _*_, _<_, _≤_}
 use mathlib.Core.Path.{_≡_, refl, sym, ap, _∙_}
-use mathlib.Core.List.{List, [], _∷_, _++_, map}
+use mathlib.Core.List.{List, [], _∷_, _++_}
 use native.Mathlib.Omega.{arith}
-use native.Mathlib.Nat.{zero-add, mul-add, mul-one, add-sub-cancel-left, sub-self, zero-mul}
+use native.Mathlib.Nat.{mul-add, mul-one, add-sub-cancel-left, sub-self, zero-mul}
 use lib.ListN.{length, getD, set, take, drop, replicate}
 use lib.LanesLaws.{map-replicate}
 use Rattle.std.specs.shelf.Lists.{joined}

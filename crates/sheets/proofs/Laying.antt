@@ -1,12 +1,11 @@
 -- Columns laid one behind another, and multiplied one after another.
-use Prim.Native.Nat.{ℕ, zero, suc, _+_, _-_, _*_, _<_, _≤_}
+use Prim.Native.Nat.{ℕ, zero, _+_, _-_, _*_, _<_, _≤_}
 use mathlib.Core.Path.{_≡_, refl, sym, ap, _∙_}
-use mathlib.Core.Logic.{_⊎_, _≢_, inl, inr, ⊎-elim}
-use mathlib.Core.List.{List, [], _∷_, _++_, map}
+use mathlib.Core.Logic.{_≢_, inl}
+use mathlib.Core.List.{List, [], _∷_, _++_}
 use native.Mathlib.Omega.{arith}
 use native.Mathlib.Nat.{add-zero}
 use lib.ListN.{length, getD, set, take, drop}
-use Rattle.std.specs.Iters.{counting}
 use Rattle.std.proofs.shelf.Counted.{length-map-counting, getD-map-counting, map-counting-more}
 use Rattle.std.proofs.shelf.Lists.{append-assoc, length-append, length-map, length-take-le, take-at, drop-at, drop-drop, drop-take, take-take, take-all, take-more, drop-more, take-append-drop, ext-getD}
 use Rattle.std.specs.declared.option.Option.{Option}
@@ -14,7 +13,7 @@ use Rattle.std.specs.declared.option.Option.the-variants.{Some, None}
 use Rattle.kinds.specs.Kind.{Arithmetic, Laws}
 use Rattle.lines.specs.Page.{over}
 use Rattle.plans.specs.Posting.{then, Column, running, adds-column, blank, topped, normalised, total-size}
-use Rattle.sheets.specs.Cells.{part, number, numbers, held, number-at, move-at, moves-at}
+use Rattle.sheets.specs.Cells.{part, numbers, held, number-at, move-at, moves-at}
 use Rattle.sheets.specs.Work.{Only, column-at, columns-at, Laid}
 use Rattle.sheets.proofs.Numbers.{length-numbers-part}
 use Rattle.sheets.proofs.Places.{column-in}

@@ -1,12 +1,11 @@
 -- Where a change of cells stays.
 use Prim.Native.Nat.{ℕ, _+_, _-_, _≤_}
 use mathlib.Core.Path.{_≡_, refl, sym, ap, _∙_}
-use mathlib.Core.Logic.{_⊎_, inl, inr}
+use mathlib.Core.Logic.{inr}
 use mathlib.Core.List.{List}
 use native.Mathlib.Omega.{arith}
 use lib.ListN.{length, getD, take, drop}
 use Rattle.std.proofs.shelf.Lists.{length-take-le, length-drop, getD-drop, take-append-le, take-take, drop-drop, ext-getD}
-use Rattle.lines.specs.Page.{over}
 use Rattle.sheets.specs.Combining.{Within}
 use Rattle.sheets.specs.Work.{Only}
 use Rattle.sheets.proofs.Standing.{length-over}

@@ -1,24 +1,24 @@
 -- What a posting comes to, from its steps.
 use Prim.Native.Nat.{ℕ, suc, _+_, _-_, _*_, _<_, _≤_}
 use mathlib.Core.Path.{_≡_, refl, sym, ap, subst, _∙_}
-use mathlib.Core.Logic.{_⊎_, inl, inr, ⊎-elim}
-use mathlib.Core.Bool.{Bool, true, false, cond}
+use mathlib.Core.Logic.{_⊎_, inr, ⊎-elim}
+use mathlib.Core.Bool.{true, false, cond}
 use mathlib.Core.List.{List, [], _++_, map}
 use native.Mathlib.Omega.{arith}
-use native.Mathlib.Nat.{zero-add, mul-add, add-mul, mul-le-mul-right, mul-one}
+use native.Mathlib.Nat.{zero-add, mul-add, add-mul, mul-one}
 use lib.Dec.{eqb}
 use lib.ListN.{length, getD, take, drop}
 use Rattle.std.specs.shelf.Lists.{joined}
-use Rattle.std.proofs.shelf.Lists.{length-append, length-map, length-replicate, length-take-le, take-at, drop-at, drop-drop, take-take, getD-take, ext-getD}
+use Rattle.std.proofs.shelf.Lists.{length-append, length-map, length-replicate, take-at, drop-at, drop-drop, getD-take, ext-getD}
 use Rattle.std.proofs.shelf.Tests.{cond-true, cond-false}
 use Rattle.std.specs.declared.option.Option.{Option}
 use Rattle.std.specs.declared.option.Option.the-variants.{Some, None}
 use Rattle.std.specs.declared.result.Result.{Result}
-use Rattle.std.specs.declared.result.Result.the-variants.{Ok, Err}
+use Rattle.std.specs.declared.result.Result.the-variants.{Ok}
 use Rattle.faults.specs.declared.SheetFault.{SheetFault}
 use Rattle.kinds.specs.Kind.{Arithmetic}
 use Rattle.lines.specs.Page.{over}
-use Rattle.plans.specs.Posting.{Column, Work, Outcome, taken, implied, contradicted, overflow, topped, column-B, normalised, rounds, total-size, finish, worked, flat, prepared, posted, without}
+use Rattle.plans.specs.Posting.{Column, Outcome, taken, implied, contradicted, overflow, topped, column-B, normalised, rounds, total-size, finish, worked, flat, prepared, posted, without}
 use Rattle.plans.specs.Sheet.{Contents}
 use Rattle.sheets.specs.declared.posting.Verdict.{Verdict}
 use Rattle.sheets.specs.declared.posting.Verdict.the-variants.{Taken}

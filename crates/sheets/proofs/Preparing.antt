@@ -1,19 +1,17 @@
 -- The columns of a posting, laid below their tops.
 use Prim.Native.Nat.{ℕ, _+_, _*_, _≤_}
-use mathlib.Core.Path.{_≡_, refl, sym, ap, _∙_}
+use mathlib.Core.Path.{_≡_, sym, ap, _∙_}
 use mathlib.Core.Logic.{_⊎_, inl, inr}
 use mathlib.Core.List.{List}
 use native.Mathlib.Omega.{arith}
 use lib.ListN.{length, take}
 use Rattle.std.specs.declared.option.Option.{Option}
 use Rattle.std.specs.declared.option.Option.the-variants.{Some, None}
-use Rattle.std.specs.declared.result.Result.the-variants.{Ok, Err}
 use Rattle.kinds.specs.Kind.{Arithmetic}
-use Rattle.plans.specs.Posting.{then, Column, running, topped, column-B}
+use Rattle.plans.specs.Posting.{then, running, topped, column-B}
 use Rattle.sheets.specs.Cells.{part, numbers, moves-at}
 use Rattle.sheets.specs.Combining.{Within}
-use Rattle.sheets.specs.Posted.{Prepared}
-use Rattle.sheets.specs.Work.{Only, column-at, columns-at, work-cells, Laid}
+use Rattle.sheets.specs.Work.{column-at, columns-at, Laid}
 use Rattle.sheets.proofs.Laying.{part-before}
 use Rattle.sheets.proofs.Limits.{only-within, within-wider, within-trans}
 use Rattle.sheets.proofs.Rounding.{columns-kept}

@@ -1,27 +1,25 @@
 -- The columns that a round changes, and those it leaves.
 use Prim.Native.Nat.{ℕ, _+_, _*_, _<_, _≤_}
-use mathlib.Core.Path.{_≡_, refl, sym, ap, _∙_}
+use mathlib.Core.Path.{_≡_, sym, ap, _∙_}
 use mathlib.Core.Logic.{_⊎_, _≢_, inl, inr, ⊎-elim}
-use mathlib.Core.List.{List, [], map}
+use mathlib.Core.List.{List, []}
 use native.Mathlib.Omega.{arith}
-use lib.ListN.{length, getD, set, take, drop}
-use Rattle.std.specs.Iters.{counting}
+use lib.ListN.{length, getD, set}
 use Rattle.std.proofs.shelf.Counted.{length-map-counting, getD-map-counting}
-use Rattle.std.proofs.shelf.Lists.{length-set, length-take, length-take-le, length-drop, getD-set-same, getD-set-other, getD-drop, take-append-le, take-take, ext-getD}
+use Rattle.std.proofs.shelf.Lists.{length-set, getD-set-same, getD-set-other, ext-getD}
 use Rattle.std.proofs.shelf.Tests.{cases-eq, cases-order}
 use Rattle.std.specs.declared.option.Option.{Option}
 use Rattle.std.specs.declared.option.Option.the-variants.{Some, None}
 use Rattle.std.specs.declared.result.Result.{Result}
 use Rattle.std.specs.declared.result.Result.the-variants.{Ok, Err}
 use Rattle.kinds.specs.Kind.{Arithmetic}
-use Rattle.lines.specs.Page.{over}
-use Rattle.plans.specs.Posting.{then, Column, Work, at, reduced, round}
+use Rattle.plans.specs.Posting.{then, Column, at, reduced, round}
 use Rattle.sheets.specs.declared.cells.Overflow.{Overflow}
 use Rattle.sheets.specs.Cells.{part, number, numbers, number-at}
-use Rattle.sheets.specs.Work.{Only, column-at, columns-at, work-at, work-cells, Came-at, Worked}
+use Rattle.sheets.specs.Work.{Only, column-at, columns-at, work-at, Came-at, Worked}
 use Rattle.sheets.proofs.Limits.{only-within, within-wider, within-trans}
 use Rattle.sheets.proofs.Places.{column-in}
-use Rattle.sheets.proofs.Standing.{part-other, length-over}
+use Rattle.sheets.proofs.Standing.{part-other}
 use Rattle.sheets.proofs.Walks.{getD-over}
 
 module _ {N C : Type 0} (a : Arithmetic N C) (n : ℕ) where

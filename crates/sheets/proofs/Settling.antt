@@ -1,20 +1,17 @@
 -- The end of a posting, on the columns in cells.
 use Prim.Native.Nat.{ℕ, _+_, _*_, _<_, _≤_}
-use mathlib.Core.Path.{_≡_, refl, sym, ap, _∙_}
-use mathlib.Core.Logic.{_⊎_, inl, inr}
-use mathlib.Core.Bool.{Bool, true, false, cond}
+use mathlib.Core.Path.{_≡_, sym, ap, _∙_}
+use mathlib.Core.Bool.{true, false, cond}
 use mathlib.Core.List.{List, [], map}
 use native.Mathlib.Omega.{arith}
 use lib.Dec.{eqb}
 use lib.ListN.{length}
 use Rattle.std.proofs.shelf.Lists.{length-map}
 use Rattle.std.proofs.shelf.Tests.{cond-true, cond-false}
-use Rattle.std.specs.declared.option.Option.{Option}
 use Rattle.std.specs.declared.option.Option.the-variants.{Some, None}
 use Rattle.kinds.specs.Kind.{Arithmetic, Laws}
 use Rattle.lines.specs.Page.{over}
-use Rattle.plans.specs.Posting.{Column, Work, Outcome, taken, contradicted, overflow, adds, at, closed, settled, finish-by, finish, without}
-use Rattle.plans.specs.Sheet.{Contents}
+use Rattle.plans.specs.Posting.{Column, Work, taken, contradicted, overflow, adds, at, closed, settled, finish-by, finish, without}
 use Rattle.sheets.specs.Cells.{part, numbers, held, number-at}
 use Rattle.sheets.specs.Work.{Only, column-at, columns-at, work-at}
 use Rattle.sheets.proofs.Numbers.{length-numbers-part}

@@ -1,24 +1,23 @@
 -- Columns as they stand in cells: read as a list, changed, and left alone.
-use Prim.Native.Nat.{ℕ, suc, _+_, _*_, _<_, _≤_}
+use Prim.Native.Nat.{ℕ, suc, _+_, _<_, _≤_}
 use mathlib.Core.Path.{_≡_, refl, sym, ap, _∙_}
 use mathlib.Core.Logic.{_⊎_, inl, inr, ⊎-elim}
-use mathlib.Core.Bool.{Bool, true, false, cond}
-use mathlib.Core.List.{List, [], _∷_, _++_, map}
+use mathlib.Core.List.{List, [], _∷_, _++_}
 use native.Mathlib.Omega.{arith}
 use native.Mathlib.Numerals.{add-one}
-use lib.ListN.{length, getD, take, drop}
-use Rattle.std.proofs.shelf.Lists.{length-map, length-append, length-take-le, length-take, length-drop, take-at, drop-at, drop-more, drop-drop, take-append-le, append-assoc, take-take, drop-take, ext-getD, getD-take, getD-drop}
+use lib.ListN.{length, take, drop}
+use Rattle.std.proofs.shelf.Lists.{length-map, length-append, length-take-le, length-take, length-drop, take-at, drop-at, drop-more, ext-getD, getD-take, getD-drop}
 use Rattle.std.specs.declared.option.Option.{Option}
 use Rattle.std.specs.declared.option.Option.the-variants.{Some, None}
 use Rattle.std.specs.declared.result.Result.{Result}
 use Rattle.std.specs.declared.result.Result.the-variants.{Ok, Err}
 use Rattle.kinds.specs.Kind.{Arithmetic, Laws}
 use Rattle.lines.specs.Page.{over}
-use Rattle.plans.specs.Posting.{then, Column, adds, adds-column, blank}
+use Rattle.plans.specs.Posting.{then, Column, adds, adds-column}
 use Rattle.sheets.specs.declared.cells.Overflow.{Overflow}
-use Rattle.sheets.specs.Cells.{part, number, or-zero, numbers, held, number-at}
-use Rattle.sheets.specs.Combining.{base, Combined}
-use Rattle.sheets.specs.Work.{Only, column-at, Came-at}
+use Rattle.sheets.specs.Cells.{part, number, or-zero, numbers, held}
+use Rattle.sheets.specs.Combining.{Combined}
+use Rattle.sheets.specs.Work.{column-at, Came-at}
 use Rattle.sheets.proofs.Walks.{getD-over}
 
 -- what is put over some places is read there

@@ -1,24 +1,22 @@
 -- Turns of the rounds, on the columns in cells.
-use Prim.Native.Nat.{ℕ, zero, suc, _+_, _*_, _<_, _≤_}
-use mathlib.Core.Path.{_≡_, refl, sym, ap, subst, _∙_}
+use Prim.Native.Nat.{ℕ, zero, suc, _+_, _<_}
+use mathlib.Core.Path.{_≡_, refl, sym, ap, _∙_}
 use mathlib.Core.Logic.{_≢_}
 use mathlib.Core.Bool.{Bool, true, false, cond}
-use mathlib.Core.List.{List, [], map}
+use mathlib.Core.List.{List, []}
 use native.Mathlib.Omega.{arith}
 use lib.Dec.{eqb, ltb}
 use lib.ListN.{length}
 use Rattle.std.specs.declared.option.Option.{Option}
 use Rattle.std.specs.declared.option.Option.the-variants.{Some, None}
-use Rattle.std.specs.declared.result.Result.{Result}
-use Rattle.std.specs.declared.result.Result.the-variants.{Ok, Err}
+use Rattle.std.specs.declared.result.Result.the-variants.{Ok}
 use Rattle.std.proofs.shelf.Tests.{cond-true, cond-false}
 use Rattle.kinds.specs.Kind.{Arithmetic, Laws}
-use Rattle.plans.specs.Posting.{Column, Work, Turn, stop, again, fail, larger, largest-of, at, size-at, pivot-of, runner-up-of, round, turned, turn-by, turn-at, turn, on, rounds, total-size}
+use Rattle.plans.specs.Posting.{Column, Work, stop, again, fail, larger, largest-of, size-at, pivot-of, runner-up-of, round, turned, turn-by, turn-at, turn, on, rounds, total-size}
 use Rattle.plans.proofs.Bests.{best-some}
 use Rattle.plans.proofs.Falling.{enough, turn-falls}
-use Rattle.sheets.specs.declared.cells.Overflow.{Overflow}
-use Rattle.sheets.specs.Cells.{top-size, number-at}
-use Rattle.sheets.specs.Work.{column-at, columns-at, work-at, work-cells, Worked, Turned, rounds-at, Ended}
+use Rattle.sheets.specs.Cells.{top-size}
+use Rattle.sheets.specs.Work.{columns-at, work-at, work-cells, rounds-at, Ended}
 use Rattle.sheets.specs.Combining.{Within}
 use Rattle.sheets.proofs.Limits.{within-trans, within-same}
 use Rattle.sheets.proofs.Rounding.{length-columns, column-of}

@@ -1,13 +1,13 @@
 -- A walk down two columns of cells, step by step.
-use Prim.Native.Nat.{ℕ, zero, suc, _+_, _<_, _≤_}
+use Prim.Native.Nat.{ℕ, zero, _+_, _<_, _≤_}
 use mathlib.Core.Path.{_≡_, refl, sym, ap, _∙_}
 use mathlib.Core.Logic.{_⊎_, inl, inr, ⊎-elim}
-use mathlib.Core.List.{List, [], _∷_, _++_, map}
+use mathlib.Core.List.{List, [], _∷_, _++_}
 use native.Mathlib.Omega.{arith}
 use native.Mathlib.Nat.{add-zero}
 use mathlib.Core.Bool.{Bool, true, false, cond}
 use lib.ListN.{length, getD, set, take, drop}
-use Rattle.std.proofs.shelf.Lists.{append-assoc, append-nil, length-append, length-map, length-take-le, length-push, length-replicate, replicate-more, take-all, getD-map, getD-append-left, getD-append-right, getD-take, getD-drop, set-at, take-more, drop-more, take-append-drop, map-append}
+use Rattle.std.proofs.shelf.Lists.{append-assoc, length-append, length-map, length-take-le, length-push, length-replicate, replicate-more, take-all, getD-map, getD-append-left, getD-append-right, getD-take, getD-drop, set-at, take-more, drop-more, take-append-drop, map-append}
 use Rattle.std.specs.declared.option.Option.{Option}
 use Rattle.std.specs.declared.option.Option.the-variants.{Some, None}
 use Rattle.kinds.specs.Kind.{Arithmetic}

@@ -1,5 +1,4 @@
 use mathlib.Core.Path.{sym, _∙_}
-use mathlib.Core.Logic.{_⊎_}
 use native.Mathlib.Omega.{arith}
 use Rattle.sheets.proofs.Walks.{walk-start, walk-more, walk-stop, walk-only, walk-end}
 use Rattle.sheets.proofs.Limits.{only-within}

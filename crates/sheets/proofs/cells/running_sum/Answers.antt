@@ -1,9 +1,8 @@
-use mathlib.Core.Path.{_≡_, sym, ap, _∙_}
+use mathlib.Core.Path.{sym, _∙_}
 use native.Mathlib.Omega.{arith}
 use lib.IntN.{pos}
 use Rattle.std.proofs.shelf.Lists.{length-map, getD-map}
-use Prim.Native.Nat.{_+_, _<_}
-use lib.ListN.{length, drop, getD}
+use lib.ListN.{length}
 use Rattle.std.specs.declared.option.Option.the-variants.{Some, None}
 use Rattle.sheets.specs.Cells.{part, numbers}
 use Rattle.sheets.proofs.Numbers.{length-numbers-part, number-of-part, running-more, running-end}

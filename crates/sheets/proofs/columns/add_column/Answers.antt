@@ -1,5 +1,3 @@
-use mathlib.Core.Path.{_≡_, refl}
-use mathlib.Core.Bool.{true}
 use native.Mathlib.Omega.{arith}
 use Prim.Native.Nat.{_+_}
 use Rattle.sheets.specs.Cells.{part, numbers}

@@ -1,9 +1,7 @@
-use mathlib.Core.Path.{_≡_, sym, ap, _∙_}
-use mathlib.Core.Bool.{Bool, true, false}
+use mathlib.Core.Path.{sym, ap, _∙_}
 use native.Mathlib.Omega.{arith}
-use Prim.Native.Nat.{ℕ}
 use lib.Dec.{eqb}
-use Rattle.std.proofs.shelf.Tests.{eqb-true, eqb-false, eq-eqb, ne-eqb}
+use Rattle.std.proofs.shelf.Tests.{eqb-true, eqb-false, ne-eqb}
 use Rattle.plans.specs.Posting.{total-size}
 use Rattle.sheets.specs.Work.{columns-at}
 use Rattle.sheets.proofs.Laying.{total-zero, total-some}

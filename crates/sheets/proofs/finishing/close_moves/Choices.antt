@@ -4,7 +4,6 @@ use Rattle.std.specs.shelf.Lists.{joined}
 use Rattle.lines.specs.Page.{over}
 use Rattle.sheets.specs.Cells.{held}
 use Rattle.sheets.specs.Work.{left-at}
-use Rattle.sheets.proofs.Closing.{close-start}
 use Rattle.sheets.proofs.finishing.close_moves.Given as given
 
 abbrev pub Inv-loop-j : given.InvT-loop-j

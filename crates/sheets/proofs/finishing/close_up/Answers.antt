@@ -1,14 +1,13 @@
-use mathlib.Core.Path.{_≡_, refl, sym, ap, _∙_}
+use mathlib.Core.Path.{_≡_, ap, _∙_}
 use mathlib.Core.List.{List, map}
 use native.Mathlib.Omega.{arith}
-use native.Mathlib.Nat.{add-mul, mul-le-mul-right}
-use Prim.Native.Nat.{ℕ, _+_, _-_, _*_, _≤_}
+use native.Mathlib.Nat.{add-mul}
+use Prim.Native.Nat.{ℕ, _+_, _-_, _*_}
 use lib.ListN.{length}
 use Rattle.std.proofs.shelf.Lists.{length-map}
-use Rattle.lines.specs.Page.{over}
 use Rattle.plans.specs.Posting.{Column, without}
 use Rattle.sheets.specs.Cells.{part, numbers, held}
-use Rattle.sheets.specs.Work.{columns-at, left-at}
+use Rattle.sheets.specs.Work.{columns-at}
 use Rattle.sheets.proofs.Closing.{closed-up, columns-behind}
 use Rattle.sheets.proofs.Numbers.{length-numbers-part}
 use Rattle.sheets.proofs.finishing.close_up.Needs as need

@@ -1,13 +1,11 @@
-use mathlib.Core.Path.{_≡_, sym, subst, ap, _∙_}
+use mathlib.Core.Path.{_≡_, sym, subst}
 use mathlib.Core.Logic.{_⊎_}
-use mathlib.Core.List.{List}
 use native.Mathlib.Omega.{arith}
 use Prim.Native.Nat.{ℕ, _+_, _*_, _≤_}
-use lib.ListN.{length}
 use Rattle.std.proofs.shelf.Results.{err-from-errBy}
 use Rattle.std.specs.declared.option.Option.the-variants.{Some, None}
 use Rattle.plans.specs.Posting.{reduced}
-use Rattle.sheets.specs.Work.{Only, column-at, Came-at}
+use Rattle.sheets.specs.Work.{column-at, Came-at}
 use Rattle.sheets.proofs.Limits.{within-wider}
 use Rattle.sheets.proofs.Rounding.{columns-apart, round-first-none, round-came, second-room}
 use Rattle.sheets.proofs.rounds.round.Needs as need
