@@ -1,5 +1,5 @@
 -- What the answers mean.
-use Prim.Native.Nat.{ℕ, _+_, _<_, _≤_}
+use Prim.Native.Nat.{ℕ, _+_, _≤_}
 use mathlib.Core.Path.{_≡_, refl, sym, ap, _∙_}
 use mathlib.Core.Bool.{Bool, true, false, cond, _&&_}
 use mathlib.Core.List.{List, [], _∷_}
@@ -14,7 +14,7 @@ use Rattle.std.specs.declared.option.Option.the-variants.{Some, None}
 use Rattle.std.specs.declared.result.Result.{Result}
 use Rattle.std.specs.declared.result.Result.the-variants.{Ok, Err}
 use Rattle.kinds.specs.declared.whole.Whole.{Whole}
-use Rattle.kinds.specs.Equation.{Equation, dot, Meets}
+use Rattle.kinds.specs.Equation.{dot}
 use Rattle.kinds.proofs.Sames.{same-eq}
 use Rattle.kinds.proofs.Wholes.{equal, abs-zero}
 use Rattle.faults.specs.declared.NumberFault.{NumberFault}
@@ -25,7 +25,7 @@ use Rattle.faults.specs.Faults.{number-fault, line-fault}
 use Rattle.lines.specs.Line.{numbers, refusal}
 use Rattle.costing.specs.declared.Refusal.{Refusal}
 use Rattle.costing.specs.declared.Refusal.the-variants.{Equation as InEquation, Plan as InPlan, Count, Overflow}
-use Rattle.costing.specs.Costing.{equation-of, running, balance-of, counts-fit, judged, judgement, unless, verdict, refusal-number, answer, Lines-meet, Means}
+use Rattle.costing.specs.Costing.{equation-of, balance-of, counts-fit, judged, judgement, unless, verdict, refusal-number, answer, Lines-meet, Means}
 use Rattle.costing.proofs.Sums.{running-from}
 
 -- counts that fit

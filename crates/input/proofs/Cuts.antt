@@ -4,12 +4,12 @@ use native.Mathlib.Nat.{zero-add, suc-add}
 use lib.Seq.{paste}
 use Rattle.std.proofs.shelf.Edits.{take-paste}
 use mathlib.Core.Path.{_≡_, refl, sym, ap, _∙_}
-use mathlib.Core.Bool.{Bool, true, false, cond}
+use mathlib.Core.Bool.{true, false, cond}
 use mathlib.Core.List.{List, [], _∷_, _++_}
 use native.Mathlib.Omega.{arith}
-use lib.Dec.{eqb, ltb}
+use lib.Dec.{eqb}
 use lib.ListN.{length, take, drop, getD}
-use Rattle.std.proofs.shelf.Lists.{drop-more, take-more, append-assoc, append-nil, take-all, drop-all, take-append-le, length-take-le, length-take, take-at}
+use Rattle.std.proofs.shelf.Lists.{drop-more, take-more, append-assoc, append-nil, take-all, length-take-le}
 use Rattle.std.proofs.shelf.Ways.{tells}
 use Rattle.std.proofs.shelf.Tests.{cases-lt}
 use mathlib.Core.Logic.{⊎-elim}

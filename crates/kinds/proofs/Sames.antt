@@ -1,11 +1,11 @@
 -- The same in a modulus: a congruence. Assumes nothing.
-use mathlib.Core.Path.{_≡_, refl, ap, sym, _∙_}
+use mathlib.Core.Path.{_≡_, ap, sym, _∙_}
 use Prim.Native.Nat.{ℕ}
 use native.Mathlib.Omega.{arith}
-use lib.IntN.{ℤ, pos, negℤ, _+ℤ_, _-ℤ_, _*ℤ_, *ℤ-comm, zero-*ℤ, +ℤ-idr}
+use lib.IntN.{ℤ, pos, negℤ, _+ℤ_, _*ℤ_, *ℤ-comm, zero-*ℤ, +ℤ-idr}
 use borrow.Author.Differences.{ints}
 use Rattle.kinds.specs.Kind.{Same}
-use Rattle.kinds.proofs.Ring.{*ℤ-assoc, *ℤ-distribˡ, *ℤ-distribʳ, *ℤ-neg, neg-*ℤ}
+use Rattle.kinds.proofs.Ring.{*ℤ-assoc, *ℤ-distribˡ, *ℤ-distribʳ, neg-*ℤ}
 
 pub same-eq : {m : ℕ} {a b : ℤ} → a ≡ b → Same m a b
 same-eq {m} {a} {b} e = record { times = pos 0; differ = e ∙ sym (ap (λ z. b +ℤ z) (zero-*ℤ (pos m)) ∙ +ℤ-idr b) }

@@ -3,23 +3,20 @@ use mathlib.Core.Path.{_≡_, refl, ap, sym, _∙_}
 use mathlib.Core.HLevel.{isProp→PathP}
 use mathlib.Core.Bool.{Bool, true, false, cond, _||_, not}
 use mathlib.Core.Logic.{_⊎_, inl, inr, ⊎-elim}
-use Prim.Native.Nat.{ℕ, suc, _+_, _-_, _*_, _/_, _%_, _^_, _<_, _≤_}
+use Prim.Native.Nat.{ℕ, _+_, _-_, _*_, _/_, _%_, _^_, _<_, _≤_}
 use native.Mathlib.Omega.{arith}
 use native.Mathlib.Bridge.{le-prop}
-use native.Mathlib.Nat.{mod-lt, mod-eq-of-lt, mul-le-mul}
+use native.Mathlib.Nat.{mod-lt, mod-eq-of-lt}
 use lib.Dec.{eqb, ltb, lit<}
-use lib.IntN.{ℤ, pos, negsuc, negℤ, _+ℤ_, _-ℤ_, _*ℤ_, +ℤ-invr, natAbs}
+use lib.IntN.{ℤ, pos, negsuc, negℤ, _-ℤ_, _*ℤ_, +ℤ-invr}
 use borrow.Author.Differences.{ints}
-use Rattle.std.proofs.shelf.Tests.{eqb-true, eqb-false, eq-eqb, ne-eqb, lt-ltb, or-cases, cases-eq, cond-true, cond-false, not-true, ltb-true, both-ways, false≢true}
-use lib.Signed.{leZ}
-use Rattle.std.specs.declared.option.Option.{Option}
+use Rattle.std.proofs.shelf.Tests.{eqb-true, eqb-false, eq-eqb, ne-eqb, lt-ltb, or-cases, cases-eq, cond-true, cond-false, not-true, ltb-true, both-ways}
 use Rattle.std.specs.declared.option.Option.the-variants.{Some, None}
 use Rattle.kinds.specs.declared.weekday.Weekday.{Weekday}
-use Rattle.kinds.specs.declared.weekday.WeekdayCell.{WeekdayCell}
-use Rattle.kinds.specs.Kind.{Arithmetic, Laws, Same, Stored}
+use Rattle.kinds.specs.Kind.{Laws, Same}
 use Rattle.kinds.specs.Weekday.{day, day-of, day-at, size-of, weekdays}
-use Rattle.kinds.proofs.Sames.{same-eq, same-sym, same-trans, same-add, same-neg, same-scale, same-mul}
-use Rattle.kinds.proofs.Tables.{all, below, below-2}
+use Rattle.kinds.proofs.Sames.{same-eq, same-sym, same-trans, same-add, same-neg, same-mul}
+use Rattle.kinds.proofs.Tables.{below, below-2}
 
 -- two days of one value are one
 pub same-day : {a b : Weekday} → a .value ≡ b .value → a ≡ b

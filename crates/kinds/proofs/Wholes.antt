@@ -3,24 +3,22 @@ use mathlib.Core.Path.{_≡_, refl, ap, sym, subst, _∙_}
 use mathlib.Core.HLevel.{isProp→PathP}
 use mathlib.Core.Bool.{Bool, true, false, cond}
 use mathlib.Core.Logic.{_⊎_, inl, inr, ⊎-elim}
-use Prim.Native.Nat.{ℕ, zero, suc, _+_, _-_, _*_, _/_, _%_, _<_, _≤_, min}
+use Prim.Native.Nat.{ℕ, zero, suc, _-_, _*_, _/_, _%_, _<_, _≤_}
 use native.Mathlib.Omega.{arith}
 use native.Mathlib.Bridge.{le-prop}
 use native.Mathlib.Nat.{mod-lt, div-add-mod', div-le-self, mul-pos, mul-le-mul-right, mul-le-mul, add-mul, one-mul}
 use lib.Dec.{eqb, leb, lit<}
-use lib.IntN.{ℤ, pos, negsuc, negℤ, natAbs, _+ℤ_, _-ℤ_, _*ℤ_, *ℤ-zero, +ℤ-idr, negℤ-negℤ}
+use lib.IntN.{ℤ, pos, negsuc, negℤ, natAbs, _+ℤ_, _-ℤ_, _*ℤ_, *ℤ-zero, +ℤ-idr}
 use mir.Syntax.{w32, w64}
 use mir.Val.{SFits, toZ, ofZ}
 use mir.ValLaws.{toZ-ofZ}
 use borrow.Author.Differences.{ints, abs-is, sum-is, fits-in}
-use Rattle.std.proofs.shelf.Tests.{eqb-true, eqb-false, eq-eqb, ne-eqb, leb-true, leb-false, le-leb, lt-leb, cases-eq, cond-true, cond-false}
-use Rattle.std.specs.declared.option.Option.{Option}
+use Rattle.std.proofs.shelf.Tests.{eqb-false, eq-eqb, ne-eqb, leb-true, le-leb, lt-leb, cases-eq, cond-true, cond-false}
 use Rattle.std.specs.declared.option.Option.the-variants.{Some, None}
 use Rattle.kinds.specs.declared.whole.Whole.{Whole}
-use Rattle.kinds.specs.declared.whole.WholeCell.{WholeCell}
-use Rattle.kinds.specs.Kind.{Arithmetic, Laws, Same, Stored}
+use Rattle.kinds.specs.Kind.{Laws, Same}
 use Rattle.kinds.specs.Whole.{nearest, fitted, down-by, floor, sign, wholes}
-use Rattle.kinds.proofs.Ring.{*ℤ-neg, neg-*ℤ}
+use Rattle.kinds.proofs.Ring.{*ℤ-neg}
 use Rattle.kinds.proofs.Sames.{same-eq}
 
 -- two numbers of one value are one

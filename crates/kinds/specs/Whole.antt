@@ -1,6 +1,6 @@
 -- The whole kind: -2147483647 to 2147483647, with modulus 0. Assumes nothing.
 use mathlib.Core.Bool.{cond}
-use Prim.Native.Nat.{ℕ, suc, _/_, _≤_, min}
+use Prim.Native.Nat.{ℕ, suc, _/_, min}
 use native.Mathlib.Omega.{arith}
 use lib.Dec.{eqb, leb}
 use lib.IntN.{ℤ, pos, negsuc, negℤ, natAbs, _+ℤ_, _*ℤ_}

@@ -7,7 +7,7 @@ use native.Mathlib.Omega.{arith}
 use lib.Dec.{eqb, ltb}
 use lib.IntN.{ℤ}
 use lib.ListN.{length, take, drop}
-use Rattle.std.specs.shelf.Lists.{joined, All}
+use Rattle.std.specs.shelf.Lists.{joined}
 use Rattle.std.proofs.shelf.Elements.{all-take, all-drop, all-weaker}
 use Rattle.std.proofs.shelf.Lists.{length-take-le, length-drop, take-append-drop, take-at, drop-drop}
 use Rattle.std.proofs.shelf.Tests.{ltb-false, le-ltb, eqb-true, or-parts, cond-false}
@@ -17,7 +17,7 @@ use Rattle.std.specs.declared.result.Result.the-variants.{Ok, Err}
 use Rattle.faults.specs.declared.LineFault.{LineFault}
 use Rattle.faults.specs.declared.LineFault.the-variants.{FewWords}
 use Rattle.lines.specs.declared.reading.Line.{Line}
-use Rattle.lines.specs.Hex.{Hex, hex-value, no-digit, find, number-of, word-of, text, word-text}
+use Rattle.lines.specs.Hex.{Hex, hex-value, no-digit, find, text, word-text}
 use Rattle.lines.specs.Line.{line-text, frame-of, count-of, words-of, numbers, is-lowest, has, first, at-place, length-refusal, digit-refusal, size-refusal, frame-refusal, number-refusal, refusal, read-refusal, read-of, answered, line-of, words-left}
 use Rattle.lines.proofs.Digits.{text-number, word-text-word}
 use Rattle.lines.proofs.Finding.{find-none}

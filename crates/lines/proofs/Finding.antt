@@ -1,6 +1,6 @@
 -- The first element that passes a test, over a loop that counts up.
 use Prim.Native.Nat.{ℕ, _+_, _<_, _≤_}
-use mathlib.Core.Path.{_≡_, refl, sym, _∙_}
+use mathlib.Core.Path.{_≡_, refl, _∙_}
 use native.Mathlib.Omega.{arith}
 use mathlib.Core.Bool.{Bool, true, false, cond}
 use mathlib.Core.List.{List, [], _∷_}
@@ -9,7 +9,7 @@ use Rattle.std.proofs.shelf.Lists.{at-drop-more, at-drop-all}
 use Rattle.std.proofs.shelf.Tests.{cond-true, cond-false}
 use Rattle.std.specs.declared.option.Option.the-variants.{Some, None}
 use Rattle.std.specs.shelf.Lists.{All}
-use Rattle.lines.specs.Hex.{find-from, find}
+use Rattle.lines.specs.Hex.{find-from}
 
 module _ {A : Type 0} (test : A → Bool) (xs : List A) (i : ℕ) where
   pub find-here : (d : A) → i < length xs → test (getD xs i d) ≡ true → find-from test i (drop i xs) ≡ Some i

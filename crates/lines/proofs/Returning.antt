@@ -1,23 +1,21 @@
 -- A line that was written reads back.
-use Prim.Native.Nat.{ℕ, suc, _+_, _*_, _<_, _≤_}
-use mathlib.Core.Path.{_≡_, refl, sym, ap, _∙_}
-use mathlib.Core.Bool.{Bool, true, false, cond, _||_}
+use Prim.Native.Nat.{ℕ, _+_, _*_, _<_, _≤_}
+use mathlib.Core.Path.{_≡_, refl, ap, _∙_}
+use mathlib.Core.Bool.{true, false, _||_}
 use mathlib.Core.List.{List, [], _∷_, _++_}
 use native.Mathlib.Omega.{arith}
 use lib.Dec.{eqb, ltb}
 use lib.IntN.{ℤ}
-use lib.ListN.{length, take, drop}
+use lib.ListN.{length}
 use mir.Syntax.{w32}
 use mir.Val.{SFits, ofZ}
 use Rattle.std.specs.shelf.Lists.{joined, All}
 use Rattle.std.proofs.shelf.Elements.{all-append, all-weaker}
 use Rattle.std.proofs.shelf.Tests.{le-ltb, eq-eqb, or-from, cond-true, cond-false}
-use Rattle.std.specs.declared.option.Option.{Option}
 use Rattle.std.specs.declared.option.Option.the-variants.{Some, None}
-use Rattle.faults.specs.declared.LineFault.{LineFault}
 use Rattle.faults.specs.declared.LineFault.the-variants.{Length, NoDigit, Size, Frame, Number}
 use Rattle.faults.specs.declared.NumberFault.the-variants.{Lowest}
-use Rattle.lines.specs.Hex.{Hex, hex-value, no-digit, find, number-of, word-of, text, word-text}
+use Rattle.lines.specs.Hex.{Hex, hex-value, no-digit, find, text, word-text}
 use Rattle.lines.specs.Line.{line-text, frame-of, count-of, words-of, numbers, is-lowest, has, first, at-place, length-refusal, digit-refusal, size-refusal, frame-refusal, number-refusal, refusal, Reads-back}
 use Rattle.lines.proofs.Digits.{hex-text, number-text, word-word-text}
 use Rattle.lines.proofs.Filling.{length-joined}

@@ -1,12 +1,12 @@
 -- The sum of the tops' sizes falls with each round, so that the turns allowed are enough.
-use mathlib.Core.Path.{_≡_, refl, ap, sym, _∙_}
+use mathlib.Core.Path.{_≡_, refl, ap, _∙_}
 use mathlib.Core.List.{List, [], _∷_}
 use mathlib.Core.Bool.{Bool, true, false, cond}
-use Prim.Native.Nat.{ℕ, zero, suc, _+_, _<_, _≤_}
+use Prim.Native.Nat.{ℕ, zero, suc, _<_}
 use native.Mathlib.Omega.{arith}
 use lib.Dec.{eqb}
-use lib.IntN.{ℤ, negℤ, _+ℤ_, _-ℤ_, _*ℤ_}
-use lib.ListN.{length, getD, set}
+use lib.IntN.{_-ℤ_, _*ℤ_}
+use lib.ListN.{length, set}
 use Rattle.std.specs.declared.option.Option.{Option}
 use Rattle.std.specs.declared.option.Option.the-variants.{Some, None}
 use Rattle.kinds.specs.Kind.{Arithmetic, Laws, Same}

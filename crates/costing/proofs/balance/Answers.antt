@@ -1,17 +1,14 @@
 use borrow.Author.Needs.{needs}
 use mathlib.Core.Path.{_≡_, sym, ap, _∙_}
-use mathlib.Core.Bool.{Bool, false}
+use mathlib.Core.Bool.{false}
 use native.Mathlib.Omega.{arith}
-use Prim.Native.Nat.{_+_, _<_, _≤_}
-use lib.IntN.{ℤ, pos, negℤ, _+ℤ_, _*ℤ_}
-use lib.ListN.{length, drop, getD}
+use lib.IntN.{ℤ, pos, negℤ}
+use lib.ListN.{getD}
 use mir.Syntax.{w32}
-use mir.Val.{SFits, toZ, ofZ}
+use mir.Val.{SFits}
 use Rattle.std.proofs.shelf.Elements.{all-getD}
 use Rattle.std.proofs.shelf.Signed.{toZ-ofZ}
-use Rattle.std.specs.declared.option.Option.{Option}
 use Rattle.std.specs.declared.option.Option.the-variants.{Some, None}
-use Rattle.kinds.specs.declared.whole.Whole.{Whole}
 use Rattle.kinds.specs.Whole.{fitted}
 use Rattle.lines.specs.Line.{is-lowest}
 use Rattle.lines.proofs.Finding.{find-none}

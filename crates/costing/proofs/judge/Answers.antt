@@ -1,26 +1,21 @@
 use borrow.Author.Needs.{needs}
 use mathlib.Core.Path.{_≡_, sym, ap, _∙_}
-use mathlib.Core.Bool.{Bool, true, false}
-use mathlib.Core.List.{List}
+use mathlib.Core.Bool.{false}
 use native.Mathlib.Omega.{arith}
-use Prim.Native.Nat.{ℕ, _+_, _-_, _<_, _≤_}
-use lib.Dec.{eqb}
-use lib.IntN.{ℤ, pos, negℤ, natAbs}
+use Prim.Native.Nat.{ℕ, _-_}
+use lib.IntN.{pos, negℤ}
 use lib.ListN.{length, take, getD}
 use mir.Syntax.{w32}
-use mir.Val.{SFits, toZ, ofZ}
+use mir.Val.{SFits}
 use Rattle.std.proofs.shelf.Elements.{all-getD, all-take}
 use Rattle.std.proofs.shelf.Lists.{length-take-le}
 use Rattle.std.proofs.shelf.Signed.{toZ-ofZ}
-use Rattle.std.specs.declared.option.Option.{Option}
 use Rattle.std.specs.declared.option.Option.the-variants.{Some, None}
 use Rattle.std.specs.declared.result.Result.the-variants.{Ok}
-use Rattle.kinds.specs.declared.whole.Whole.{Whole}
 use Rattle.kinds.specs.Whole.{fitted}
-use Rattle.lines.specs.Hex.{find}
 use Rattle.lines.specs.Line.{is-lowest}
 use Rattle.lines.proofs.Finding.{find-none, none-find}
-use Rattle.costing.specs.Costing.{equation-of, running, balance-of, judgement}
+use Rattle.costing.specs.Costing.{equation-of, running, balance-of}
 use Rattle.costing.proofs.Verdicts.{fit, judgement-is}
 use Rattle.costing.proofs.judge.Needs as need
 

@@ -1,10 +1,9 @@
 use mathlib.Core.Path.{_≡_, sym, ap, _∙_}
-use mathlib.Core.List.{List, [], _∷_}
+use mathlib.Core.List.{List, []}
 use native.Mathlib.Omega.{arith}
 use Prim.Native.Nat.{ℕ, _-_}
 use lib.IntN.{ℤ}
 use lib.ListN.{take}
-use Rattle.std.specs.declared.option.Option.the-variants.{None}
 use Rattle.lines.specs.Hex.{find}
 use Rattle.lines.specs.Line.{numbers, is-lowest}
 use Rattle.costing.specs.declared.Refusal.the-variants.{Equation as InEquation, Plan as InPlan}

@@ -1,8 +1,8 @@
 use native.Mathlib.Omega.{arith}
-use mathlib.Core.Path.{_≡_, refl, sym, ap, _∙_}
+use mathlib.Core.Path.{sym, ap, _∙_}
 use mathlib.Core.List.{List, _++_}
 use Prim.Native.Nat.{ℕ}
-use lib.ListN.{take, drop, length}
+use lib.ListN.{take, length}
 use Rattle.std.proofs.shelf.Lists.{append-nil, take-all, drop-all}
 use Rattle.std.proofs.shelf.Ways.{tells}
 use Rattle.input.specs.Cutting.{line, ended}

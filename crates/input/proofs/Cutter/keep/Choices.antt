@@ -1,5 +1,4 @@
 use mathlib.Core.Path.{_≡_}
-use lib.ListN.{length}
 use lib.Seq.{paste}
 use Rattle.input.proofs.Cutter.keep.Given as given
 

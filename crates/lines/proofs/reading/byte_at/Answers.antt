@@ -1,7 +1,5 @@
 use Prim.Native.Nat.{_+_, _<_}
-use mathlib.Core.Path.{_≡_, sym, ap, _∙_}
 use native.Mathlib.Omega.{arith}
-use lib.ListN.{length}
 use Rattle.std.proofs.shelf.Elements.{all-getD}
 use Rattle.lines.specs.Hex.{hex-value}
 use Rattle.lines.proofs.Words.{byte-at}

@@ -1,4 +1,4 @@
-use mathlib.Core.Path.{sym, _∙_}
+use mathlib.Core.Path.{sym}
 use native.Mathlib.Omega.{arith}
 use Rattle.lines.specs.Hex.{no-digit}
 use Rattle.lines.proofs.Accepting.{hex-from-find}

@@ -1,6 +1,6 @@
 use borrow.Author.Needs.{needs}
 use mathlib.Core.Path.{_≡_, _∙_, ap, sym, subst}
-use mathlib.Core.List.{List, [], _∷_, _++_}
+use mathlib.Core.List.{[]}
 use native.Mathlib.Omega.{arith}
 use Prim.Native.Nat.{ℕ, _+_}
 use mir.Syntax.{w32}
@@ -9,10 +9,9 @@ use Rattle.std.specs.shelf.Lists.{All}
 use Rattle.std.proofs.shelf.Elements.{all-more}
 use Rattle.std.specs.declared.option.Option.the-variants.{None}
 use Rattle.lines.proofs.Returning.{reads-back}
-use lib.IntN.{ℤ, pos}
+use lib.IntN.{pos}
 use lib.ListN.{length, take, getD}
 use Rattle.std.proofs.shelf.Lists.{take-all}
-use Rattle.lines.specs.Line.{line-text}
 use Rattle.lines.specs.Page.{Model, model, begin-refusal, began, with-word, closed}
 use Rattle.lines.proofs.Filling.{puts, puts-more, line-stands, begins}
 use Rattle.lines.proofs.writing.write_line.Needs as need

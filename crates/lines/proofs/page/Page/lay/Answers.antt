@@ -1,11 +1,11 @@
 use native.Mathlib.Omega.{arith}
-use Prim.Native.Nat.{ℕ, _+_, _<_, _≤_}
-use mathlib.Core.Path.{_≡_, refl, sym, ap, _∙_}
-use lib.ListN.{length, set, getD, replicate}
+use Prim.Native.Nat.{ℕ, _+_, _<_}
+use mathlib.Core.Path.{_≡_, refl, ap, _∙_}
+use lib.ListN.{length, set, getD}
 use lib.Seq.{paste}
 use denote.Ref.{now}
-use Rattle.std.proofs.shelf.Edits.{paste-all, paste-none, paste-more, fill-from-more}
-use Rattle.std.proofs.shelf.Lists.{length-set, length-replicate}
+use Rattle.std.proofs.shelf.Edits.{paste-all, paste-none, paste-more}
+use Rattle.std.proofs.shelf.Lists.{length-set}
 use Rattle.lines.specs.Page.{Model, model, with-bytes}
 use Rattle.lines.proofs.page.Page.lay.Needs as need
 

@@ -1,5 +1,5 @@
 use mathlib.Core.Path.{_≡_}
-use lib.ListN.{length, replicate}
+use lib.ListN.{length}
 use lib.Seq.{paste}
 use denote.Ref.{now, name}
 use Rattle.lines.specs.Page.{model, with-bytes}

@@ -1,10 +1,10 @@
 use native.Mathlib.Omega.{arith}
-use Prim.Native.Nat.{ℕ, _+_, _<_, _≤_}
+use Prim.Native.Nat.{ℕ, _+_, _<_}
 use mathlib.Core.Path.{_≡_, refl, sym, ap, _∙_}
-use lib.ListN.{length, set, getD, replicate}
+use lib.ListN.{length, set, replicate}
 use lib.Seq.{paste}
 use denote.Ref.{now}
-use Rattle.std.proofs.shelf.Edits.{paste-all, paste-none, paste-more, fill-from-more}
+use Rattle.std.proofs.shelf.Edits.{paste-all, paste-none, fill-from-more}
 use Rattle.std.proofs.shelf.Lists.{length-set, length-replicate}
 use Rattle.lines.specs.Page.{Model, model, with-bytes}
 use Rattle.lines.proofs.page.Page.wipe.Needs as need
