@@ -1,4 +1,7 @@
 // Worked examples of the crates below, as tests: each is proved safe, and then run.
+
+#![tactic(auto)]
+
 #[cfg(test)]
 mod kinds_cases;
 #[cfg(test)]

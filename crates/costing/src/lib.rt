@@ -1,4 +1,7 @@
 // The costing call: does a plan meet an equation, both given as lines?
+
+#![tactic(auto)]
+
 ghost use Rattle.std.specs.Prelude.{◌≡◌, ◌+◌, ◌≤◌, false, [], ◌∷◌, length, take, pos, neg_ℤ, Some, None, MatchResult};
 ghost use Rattle.kinds.specs.Whole.{fitted};
 ghost use Rattle.lines.specs.Hex.{find};

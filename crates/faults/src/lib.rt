@@ -1,4 +1,7 @@
 // The faults, by layer. Each holds the lower layer's fault whole; its number and place are spelled out in specs/Faults.
+
+#![tactic(auto)]
+
 ghost use Rattle.std.specs.Prelude.{◌≡◌};
 ghost use Rattle.faults.specs.Faults.{number_fault, line_fault, line_place, page_fault, sheet_fault, sheet_place};
 ghost use Rattle.faults.specs.declared.SheetFault.TheVariants.{Line, Page};

@@ -1,4 +1,7 @@
 // The lines of a stream of bytes that comes in chunks, each line cut to its first 205 bytes.
+
+#![tactic(auto)]
+
 ghost use Rattle.std.specs.Prelude.{◌≡◌, ◌<◌, ◌≤◌, ◌++◌, length, take, IfSome, nat_lt};
 ghost use Rattle.input.specs.Cutting.{line as line_part, ended, behind};
 

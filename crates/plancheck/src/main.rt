@@ -1,5 +1,8 @@
 // Checks plans against equations: reads pairs of lines, an equation and a plan, from standard input to its end, makes
 // the costing call on each, and writes in plain words what it read and what came of it.
+
+#![tactic(auto)]
+
 use input::Cutter;
 use std::io;
 use std::io::{BufRead, BufReader, BufWriter, Write};

@@ -1,4 +1,7 @@
 // The mathematics of a sheet: what it holds and how a posting works are in specs/; here stand the theorems.
+
+#![tactic(auto)]
+
 ghost use Rattle.plans.specs.Overflows.{OnlyProducts};
 ghost use Rattle.plans.specs.Posting.{EnoughTurns};
 ghost use Rattle.plans.specs.Samples.{Samples};

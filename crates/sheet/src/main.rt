@@ -1,4 +1,7 @@
 // The program sheet: answers the lines of standard input, up to line 1,000,000, on standard output.
+
+#![tactic(auto)]
+
 use input::Cutter;
 use lines::reading::MOST_NUMBERS;
 use sessions::session::{OUTPUT, Session};

@@ -1,4 +1,7 @@
 // Sheets over lent cells, for every kind of number alike: check, opening, posting, clearing, picking and showing.
+
+#![tactic(auto)]
+
 mod cells;
 mod columns;
 mod finishing;

@@ -1,4 +1,7 @@
 // Runs lists of calls on sheets of both kinds, good calls and refused ones, and writes what came of each and what is left.
+
+#![tactic(auto)]
+
 use kinds::weekday::{Weekday, WeekdayCell};
 use kinds::whole::{Whole, WholeCell};
 use std::io;

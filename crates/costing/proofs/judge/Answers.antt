@@ -33,7 +33,7 @@ returns-in-Some c =
     let b : c.balance.result ≡ balance_of (equation_of n ws) plan
     = c.balance.ensures ∙ (λ j. running (fitted (neg_ℤ (to_z-of_z w32 (get_or ws n (pos 0)) f j))) (take (k j) ws) plan) in
     let t = fit (length ws) n (omega arith) (omega arith) (omega arith) in
-    ap Ok c.is-zero.ensures ∙ sym (judgement_is ws plan (Some c.in-Some.sum) t (sym b ∙ c.in-Some.is))
+    ap Ok c.is_zero.ensures ∙ sym (judgement_is ws plan (Some c.in-Some.sum) t (sym b ∙ c.in-Some.is))
 
 pub returns-in-None : goal.returns-in-None
 returns-in-None c =

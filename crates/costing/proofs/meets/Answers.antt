@@ -12,19 +12,19 @@ from_start n words = ap (λ (m : ℕ). take m words) (omega arith)
 pub judge-requires : goal.judge-requires
 judge-requires c =
     let e = c.in-Ok.ensures.cases in
-    let p = c.in-Ok-numbers-of.ensures.cases in (
-      ap (find is_lowest) (from_start c.in-Ok.m c.numbers-of.new.words ∙ e.2) ∙ e.3,
-      ap (find is_lowest) (from_start c.in-Ok-numbers-of.n c.numbers-of-2.new.words ∙ p.2) ∙ p.3,
+    let p = c.in-Ok-numbers_of.ensures.cases in (
+      ap (find is_lowest) (from_start c.in-Ok.m c.numbers_of.new.words ∙ e.2) ∙ e.3,
+      ap (find is_lowest) (from_start c.in-Ok-numbers_of.n c.numbers_of-2.new.words ∙ p.2) ∙ p.3,
     )
 
 pub returns : goal.returns
 returns c =
     let e = c.in-Ok.ensures.cases in
-    let p = c.in-Ok-numbers-of.ensures.cases in
+    let p = c.in-Ok-numbers_of.ensures.cases in
     let e0 = e.0 in
     let p0 = p.0 in
-    let u = from_start c.in-Ok.m c.numbers-of.new.words ∙ e.2 in
-    let v = from_start c.in-Ok-numbers-of.n c.numbers-of-2.new.words ∙ p.2 in
+    let u = from_start c.in-Ok.m c.numbers_of.new.words ∙ e.2 in
+    let v = from_start c.in-Ok-numbers_of.n c.numbers_of-2.new.words ∙ p.2 in
     record {
       value = c.judge.ensures ∙ (λ j. judgement (u j) (v j)) ∙ sym (λ j. unless (e0 j) InEquation (unless (p0 j) InPlan (judgement (numbers c.args.equation.now) (numbers c.args.plan.now))));
     }

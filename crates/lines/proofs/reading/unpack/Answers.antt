@@ -19,9 +19,9 @@ loop-k-preserved c =
     let e = length_words_of n ds in
     let in_old : 0 + k < length old = omega arith in
     let in_ws : k < length ws = omega arith in
-    let v : to_z w32 (of_z w32 c.word-at.result) ≡ get_or ws k (pos 0)
-    = to_z-of_z w32 c.word-at.result (record { sfits = c.word-at.type-inv }) ∙ c.word-at.ensures ∙ sym (number_at n c.args.bytes.now k c.loop-k-test.true (pos 0)) in
-    ap (λ (xs : List ℤ). set xs k (to_z w32 (of_z w32 c.word-at.result))) c.loop-k.invariant
+    let v : to_z w32 (of_z w32 c.word_at.result) ≡ get_or ws k (pos 0)
+    = to_z-of_z w32 c.word_at.result (record { sfits = c.word_at.type_inv }) ∙ c.word_at.ensures ∙ sym (number_at n c.args.bytes.now k c.loop-k-test.true (pos 0)) in
+    ap (λ (xs : List ℤ). set xs k (to_z w32 (of_z w32 c.word_at.result))) c.loop-k.invariant
     ∙ ap (set (paste old 0 ws k) k) v
     ∙ ap (λ (m : ℕ). set (paste old 0 ws k) m (get_or ws k (pos 0))) (sym (zero-add k))
     ∙ paste_more old 0 ws k (pos 0) in_old in_ws

@@ -15,4 +15,4 @@ pub returns : goal.returns
 returns c =
     let at : ℕ = 4 + 8 * c.args.k in
     let n : (at + 8) - at ≡ 8 = omega arith in
-    to_z-of_z w32 c.word.result (record { sfits = c.word.type-inv }) ∙ c.word.ensures ∙ ap (λ m. word_of (take m (drop at c.args.bytes.now))) n
+    to_z-of_z w32 c.word.result (record { sfits = c.word.type_inv }) ∙ c.word.ensures ∙ ap (λ m. word_of (take m (drop at c.args.bytes.now))) n

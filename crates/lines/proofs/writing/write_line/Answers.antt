@@ -28,7 +28,7 @@ returns c =
     let m = model c.args.page.now in
     let frame = c.args.frame in
     let ws = c.args.words.now in
-    let m1 : (begin_refusal m (length ws) ≡ None) × (model c.begin.new.self ≡ began m frame (length ws)) = c.in-ok-token.ensures.cases in
+    let m1 : (begin_refusal m (length ws) ≡ None) × (model c.begin.new.self ≡ began m frame (length ws)) = c.in_ok-token.ensures.cases in
     let b = begins m (length ws) m1.0 in
     let t = take_all c.loop-w.w-index ws c.loop-w-test.false in
     let p : model c.loop-w.page ≡ puts (began m frame (length ws)) ws

@@ -8,12 +8,12 @@ loop-i-init g c = (refl, refl, record { calls = refl; answered = refl; behind = 
 
 pub loop-i-preserved : goal.loop-i-preserved
 loop-i-preserved g c =
-    let made = c.make-step.ensures in (
+    let made = c.make_step.ensures in (
       made.sheet_held ∙ c.loop-i.invariant.0,
       made.page_held ∙ c.loop-i.invariant.1,
       made_more g.K.Kind.arith (state c.args.sheet.now c.args.plan.now c.args.page.now) c.args.steps.now
-          (state c.loop-i.sheet c.loop-i.plan c.loop-i.page) (state c.make-step.new.sheet c.make-step.new.plan c.make-step.new.page)
-          c.loop-i.steps c.loop-i.i _ c.make-step.new.step c.loop-i-test.true c.loop-i.auto.steps made.call made.answer made.left made.law c.loop-i.invariant.2,
+          (state c.loop-i.sheet c.loop-i.plan c.loop-i.page) (state c.make_step.new.sheet c.make_step.new.plan c.make_step.new.page)
+          c.loop-i.steps c.loop-i.i _ c.make_step.new.step c.loop-i-test.true c.loop-i.auto.steps made.call made.answer made.left made.law c.loop-i.invariant.2,
     )
 
 pub returns : goal.returns

@@ -12,12 +12,12 @@ pub returns : goal.returns
 returns g c =
     let a = g.K.Kind.arith in
     let kind = g.met.K.Kind.kept in
-    let ran = c.open-and-run.ensures in
-    let steps = c.open-and-run.new.steps in
+    let ran = c.open_and_run.ensures in
+    let steps = c.open_and_run.new.steps in
     let calls = calls_in c.args.steps.now in
     let s = begun a c.args.unknowns c.args.list c.args.cells.now c.args.plan.now (page_model c.args.page.now) in
     let answered : answers_in steps ≡ answers a s calls = search rules in
-    let behind : state_of c.open-and-run.new.cells c.open-and-run.result c.open-and-run.new.plan c.open-and-run.new.page ≡ left a s calls = search rules in
+    let behind : state_of c.open_and_run.new.cells c.open_and_run.result c.open_and_run.new.plan c.open_and_run.new.page ≡ left a s calls = search rules in
     let laws : CallsLaw a s calls = search rules in
     let sound = open_sound a kind c.args.unknowns c.args.list c.args.cells.now in
     let holds = open_law a kind c.args.unknowns c.args.list c.args.cells.now in
@@ -28,6 +28,6 @@ returns g c =
       answers = answered;
       left = behind;
       promise =
-          promise_kept a s.sheet.unknowns s calls opening laws steps (model_of c.open-and-run.new.cells c.open-and-run.result) ran.calls answered
+          promise_kept a s.sheet.unknowns s calls opening laws steps (model_of c.open_and_run.new.cells c.open_and_run.result) ran.calls answered
           (ap (λ (x : State g.row.K-Cell.Denot). x.sheet) behind);
     }

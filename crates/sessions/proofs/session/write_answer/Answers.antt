@@ -8,9 +8,9 @@ use Rattle.sessions.proofs.session.write_answer.Goals as goal
 pub returns : goal.returns
 returns c =
     let a : to_z w32 (of_z w32 c.args.number) ≡ c.args.number = to_z-of_z w32 c.args.number c.ranges.number in
-    let n : to_z w32 (of_z w32 c.number-of.result) ≡ answer_number c.args.answer = to_z-of_z w32 c.number-of.result (record { sfits = c.number-of.type-inv }) ∙ c.number-of.ensures in
-    let p : to_z w32 (of_z w32 c.place-of.result) ≡ answer_place c.args.answer = to_z-of_z w32 c.place-of.result (record { sfits = c.place-of.type-inv }) ∙ c.place-of.ensures in
+    let n : to_z w32 (of_z w32 c.number_of.result) ≡ answer_number c.args.answer = to_z-of_z w32 c.number_of.result (record { sfits = c.number_of.type_inv }) ∙ c.number_of.ensures in
+    let p : to_z w32 (of_z w32 c.place_of.result) ≡ answer_place c.args.answer = to_z-of_z w32 c.place_of.result (record { sfits = c.place_of.type_inv }) ∙ c.place_of.ensures in
     record {
-      held = c.write-line.ensures.held;
+      held = c.write_line.ensures.held;
       model = c.in-Ok.ensures.cases.1 ∙ (λ j. with_text (model c.args.page.now) (line_text 129 (a j ∷ (n j ∷ (p j ∷ []))) ++ 10 ∷ []));
     }

@@ -6,8 +6,8 @@ use Rattle.sessions.proofs.Picks.{pick_in_line}
 use Rattle.sessions.proofs.Placing.{pick_placeable}
 use Rattle.sessions.proofs.sheet_calls.pick_into.Goals as goal
 
-pub placed-in-line-requires : goal.placed-in-line-requires
-placed-in-line-requires g c =
+pub placed_in_line-requires : goal.placed_in_line-requires
+placed_in_line-requires g c =
     pick_placeable g.K.Kind.arith (model c.resume-sheet.result) c.args.choice.now c.args.plan.now c.in-Err.fault c.requires.few (sym c.pick.ensures.answer ∙ c.in-Err.is)
 
 pub returns-in-Ok : goal.returns-in-Ok
@@ -34,7 +34,7 @@ returns-in-Err g c =
     let exact : length words ≡ m.unknowns = c.requires.exact ∙ sym (ap (λ (x : Model g.row.K-Cell.Denot). x.unknowns) e) in
     record {
       answer =
-          ap Err c.placed-in-line.ensures
+          ap Err c.placed_in_line.ensures
           ∙ ap picked_done (sym c.in-Err.is)
           ∙ pick_in_line a m choice words exact c.pick.result c.pick.ensures.answer
           ∙ ap (λ (x : Model g.row.K-Cell.Denot). pick_done a x choice) e;

@@ -10,7 +10,7 @@ returns g c =
     let old = c.args.plan.now in
     let e : c.unknowns-n.result - 0 ≡ c.args.shape.unknowns = omega (arith, c.unknowns-n.ensures) in
     record {
-      answer = c.pick-into.ensures.answer;
-      kept = c.pick-into.ensures.kept;
-      plan = ap (λ (xs : List ℤ). xs ++ drop (c.unknowns-n.result - 0) old) c.pick-into.ensures.plan ∙ (λ j. pick_left a m c.args.choice.now (take (e j) old) ++ drop (e j) old);
+      answer = c.pick_into.ensures.answer;
+      kept = c.pick_into.ensures.kept;
+      plan = ap (λ (xs : List ℤ). xs ++ drop (c.unknowns-n.result - 0) old) c.pick_into.ensures.plan ∙ (λ j. pick_left a m c.args.choice.now (take (e j) old) ++ drop (e j) old);
     }

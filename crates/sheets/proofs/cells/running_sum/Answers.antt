@@ -5,8 +5,8 @@ use Rattle.sheets.proofs.Numbers.{length_numbers_part, number_of_part, running_m
 use Rattle.sheets.specs.Words.{number_of, numbers_of}
 use Rattle.sheets.proofs.cells.running_sum.Goals as goal
 
-pub returns-in-err-sum : goal.returns-in-err-sum
-returns-in-err-sum g c =
+pub returns-in_err-sum : goal.returns-in_err-sum
+returns-in_err-sum g c =
     let a = g.K.Kind.arith in
     let cs = numbers_of a c.args.coefficients.now in
     let cells = c.args.cells.now in
@@ -14,11 +14,11 @@ returns-in-err-sum g c =
     let xs = numbers a (part c.args.from n cells) in
     let i = c.loop-i.i in
     let k = length-map c.args.coefficients.now (number_of a) in
-    let w = c.word-number-c.ensures ∙ sym (get_or-map (number_of a) c.args.coefficients.now i (pos 0) c.word-number-c.result c.loop-i-test.true) in
+    let w = c.word_number-c.ensures ∙ sym (get_or-map (number_of a) c.args.coefficients.now i (pos 0) c.word_number-c.result c.loop-i-test.true) in
     let l = length_numbers_part a cells c.args.from n c.requires in
     let x = c.read.ensures ∙ sym (number_of_part a cells c.args.from n i c.requires c.loop-i-test.true) in
     c.from-residual.ensures
-    ∙ running_more a c.loop-i.sum cs xs i c.word-number-c.result c.read.result None (omega (arith, k, c.loop-i-test.true)) (omega arith) w x (sym c.in-err-sum.was ∙ c.add_product.ensures)
+    ∙ running_more a c.loop-i.sum cs xs i c.word_number-c.result c.read.result None (omega (arith, k, c.loop-i-test.true)) (omega arith) w x (sym c.in_err-sum.was ∙ c.add_product.ensures)
     ∙ c.loop-i.invariant
 
 pub loop-i-preserved : goal.loop-i-preserved
@@ -30,10 +30,10 @@ loop-i-preserved g c =
     let xs = numbers a (part c.args.from n cells) in
     let i = c.loop-i.i in
     let k = length-map c.args.coefficients.now (number_of a) in
-    let w = c.word-number-c.ensures ∙ sym (get_or-map (number_of a) c.args.coefficients.now i (pos 0) c.word-number-c.result c.loop-i-test.true) in
+    let w = c.word_number-c.ensures ∙ sym (get_or-map (number_of a) c.args.coefficients.now i (pos 0) c.word_number-c.result c.loop-i-test.true) in
     let l = length_numbers_part a cells c.args.from n c.requires in
     let x = c.read.ensures ∙ sym (number_of_part a cells c.args.from n i c.requires c.loop-i-test.true) in
-    running_more a c.loop-i.sum cs xs i c.word-number-c.result c.read.result (Some c.in-ok-sum.sum) (omega (arith, k, c.loop-i-test.true)) (omega arith) w x (sym c.in-ok-sum.was ∙ c.add_product.ensures)
+    running_more a c.loop-i.sum cs xs i c.word_number-c.result c.read.result (Some c.in_ok-sum.sum) (omega (arith, k, c.loop-i-test.true)) (omega arith) w x (sym c.in_ok-sum.was ∙ c.add_product.ensures)
     ∙ c.loop-i.invariant
 
 pub returns : goal.returns

@@ -10,24 +10,24 @@ use Rattle.sheets.proofs.columns.normalise.Goals as goal
 pub loop-j-init : goal.loop-j-init
 loop-j-init g c = units_start g.K.Kind.arith c.args.n c.args.first c.args.count c.args.cells.now c.requires
 
-pub returns-in-err-scale-column : goal.returns-in-err-scale-column
-returns-in-err-scale-column g c =
+pub returns-in_err-scale_column : goal.returns-in_err-scale_column
+returns-in_err-scale_column g c =
     let a = g.K.Kind.arith in
     let n = c.args.n in
     let now = c.loop-j.cells in
     let q = err_from_is_err_and c.from-residual.result c.from-residual.ensures.1 in
     let u = c.unit-u.ensures ∙ ap a.unit c.read.ensures in
     let e = ap (λ (x : g.row.K.Denot). adds_column a (blank a (column_at a now n c.place-at.result)) x (column_at a now n c.place-at.result)) u in
-    let f = subst (λ (x : ℕ). adds_column a (blank a (column_at a now n x)) (a.unit (column_at a now n x).top) (column_at a now n x) ≡ None) c.place-at.ensures.value (sym e ∙ c.in-err-scale-column.ensures.0) in
-    rw q.1 (units_none a n c.args.first c.args.count c.args.cells.now c.requires c.loop-j.j now c.loop-j-test.true c.loop-j.invariant f, within_trans c.loop-j.invariant.inside (within_wider c.in-err-scale-column.ensures.1 (omega (arith, c.place-at.ensures.value)) (omega (arith, c.place-at.ensures.value, column_in c.loop-j.j c.args.count (n + 1) c.loop-j-test.true))))
+    let f = subst (λ (x : ℕ). adds_column a (blank a (column_at a now n x)) (a.unit (column_at a now n x).top) (column_at a now n x) ≡ None) c.place-at.ensures.value (sym e ∙ c.in_err-scale_column.ensures.0) in
+    rw q.1 (units_none a n c.args.first c.args.count c.args.cells.now c.requires c.loop-j.j now c.loop-j-test.true c.loop-j.invariant f, within_trans c.loop-j.invariant.inside (within_wider c.in_err-scale_column.ensures.1 (omega (arith, c.place-at.ensures.value)) (omega (arith, c.place-at.ensures.value, column_in c.loop-j.j c.args.count (n + 1) c.loop-j-test.true))))
 
 pub loop-j-preserved : goal.loop-j-preserved
 loop-j-preserved g c =
     let a = g.K.Kind.arith in
     let n = c.args.n in
     let now = c.loop-j.cells in
-    let next = c.scale-column.new.cells in
-    let w = c.in-ok-scale-column.ensures in
+    let next = c.scale_column.new.cells in
+    let w = c.in_ok-scale_column.ensures in
     let v = c.place-at.ensures.value in
     let u = c.unit-u.ensures ∙ ap a.unit c.read.ensures in
     let e = ap (λ (x : g.row.K.Denot). adds_column a (blank a (column_at a now n c.place-at.result)) x (column_at a now n c.place-at.result)) u in

@@ -10,8 +10,8 @@ place-from-requires g c =
     let b = source_below g.K.Kind.arith c.args.n c.args.at c.args.count c.args.pivot c.args.cells.now c.requires.main c.requires.few c.requires.room c.requires.pivot c.loop-j.j c.source.result c.loop-j-test.true c.source.ensures in
     record { room = omega (arith, c.requires.room, c.loop-j.auto.cells); there = b }
 
-pub move-place-to-requires : goal.move-place-to-requires
-move-place-to-requires g c =
+pub move_place-to-requires : goal.move_place-to-requires
+move_place-to-requires g c =
     record {
       room = square g.K.Kind.arith c.args.n c.args.at c.args.count c.args.pivot c.args.cells.now c.requires.main c.requires.few c.requires.room c.requires.pivot;
       there = c.loop-j-test.true;
@@ -20,7 +20,7 @@ move-place-to-requires g c =
 pub loop-j-preserved : goal.loop-j-preserved
 loop-j-preserved g c =
     close_more g.K.Kind.arith c.args.n c.args.at c.args.count c.args.pivot c.args.cells.now c.requires.main c.requires.few c.requires.room c.requires.pivot
-    c.loop-j.j c.source.result c.move-place-to.result c.place-from.result c.loop-j.cells c.copy.new.cells c.loop-j-test.true c.source.ensures c.move-place-to.ensures.value c.place-from.ensures.value c.loop-j.invariant c.copy.ensures
+    c.loop-j.j c.source.result c.move_place-to.result c.place-from.result c.loop-j.cells c.copy.new.cells c.loop-j-test.true c.source.ensures c.move_place-to.ensures.value c.place-from.ensures.value c.loop-j.invariant c.copy.ensures
 
 pub returns : goal.returns
 returns g c =

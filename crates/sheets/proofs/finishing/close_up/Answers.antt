@@ -28,5 +28,5 @@ returns g c =
     let lf : length (held a F) ≡ n = length-map F a.to_cell ∙ length_numbers_part a cs (p + 1) n (omega (arith, c.requires.room)) in
     let t : columns_at a c.copy.new.cells n (p + (n + 1)) k ≡ columns_at a cs n (p + (n + 1)) k
     = ap (λ (x : List g.row.K-Cell.Denot). columns_at a x n (p + (n + 1)) k) c.copy.ensures ∙ columns_behind a n (p + (n + 1)) k cs (held a F) (omega arith) (omega (arith, c.requires.room)) in
-    closed_up a n p k l cs c.requires.main c.requires.few c.requires.room c.requires.pivot c.copy.new.cells c.close-moves.new.cells c.wipe.new.cells c.copy.ensures
-    (ap (λ (x : List (Column g.row.K.Denot)). map (λ c. c.low) (without x l)) t) c.close-moves.ensures c.wipe.ensures
+    closed_up a n p k l cs c.requires.main c.requires.few c.requires.room c.requires.pivot c.copy.new.cells c.close_moves.new.cells c.wipe.new.cells c.copy.ensures
+    (ap (λ (x : List (Column g.row.K.Denot)). map (λ c. c.low) (without x l)) t) c.close_moves.ensures c.wipe.ensures

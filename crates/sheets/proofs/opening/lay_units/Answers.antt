@@ -13,8 +13,8 @@ loop-j-preserved g c =
     let n = c.args.n in
     let l = length_units a n in
     let room = c.requires.room in
-    rows_more a n (unit_moves a n) (each_unit a n) c.args.cells.now c.loop-j.cells c.lay-unit.new.cells n c.move-place-from.result c.loop-j.j
-    (rw l room) (omega (arith, l, c.loop-j-test.true)) c.move-place-from.ensures.value c.loop-j.invariant c.lay-unit.ensures
+    rows_more a n (unit_moves a n) (each_unit a n) c.args.cells.now c.loop-j.cells c.lay_unit.new.cells n c.move_place-from.result c.loop-j.j
+    (rw l room) (omega (arith, l, c.loop-j-test.true)) c.move_place-from.ensures.value c.loop-j.invariant c.lay_unit.ensures
 
 pub returns : goal.returns
 returns g c =

@@ -11,23 +11,23 @@ loop-i-init g c =
     let a = g.K.Kind.arith in
     fills_start a (contents_in a c.args.n (length c.args.choice.now) c.args.cells.now) (numbers_of a c.args.choice.now) _ refl
 
-pub returns-in-err-picked : goal.returns-in-err-picked
-returns-in-err-picked g c =
+pub returns-in_err-picked : goal.returns-in_err-picked
+returns-in_err-picked g c =
     let a = g.K.Kind.arith in
     let n = c.args.n in
     let s = contents_in a n (length c.args.choice.now) c.args.cells.now in
     let xs = numbers_of a c.args.choice.now in
-    let e = fills_none a s xs n c.loop-i.i c.loop-i-test.true (sym c.in-err-picked.was ∙ c.picked.ensures) in
+    let e = fills_none a s xs n c.loop-i.i c.loop-i-test.true (sym c.in_err-picked.was ∙ c.picked.ensures) in
     subst (Planned a (plan_of a n s xs) n) (sym c.from-residual.ensures) e
 
 pub loop-i-preserved : goal.loop-i-preserved
 loop-i-preserved g c =
     let a = g.K.Kind.arith in
-    let x = c.in-ok-picked.field-0 in
+    let x = c.in_ok-picked.field-0 in
     let w = to_z w32 (of_z w32 c.write.result) in
-    let e : w ≡ a.write x = to_z-of_z w32 c.write.result (record { sfits = c.write.type-inv }) ∙ c.write.ensures in
+    let e : w ≡ a.write x = to_z-of_z w32 c.write.result (record { sfits = c.write.type_inv }) ∙ c.write.ensures in
     fills_more a (contents_in a c.args.n (length c.args.choice.now) c.args.cells.now) (numbers_of a c.args.choice.now) c.loop-i.words c.loop-i.i x w
-    (omega (arith, c.requires.few, c.loop-i-test.true)) c.loop-i.invariant (sym c.in-ok-picked.was ∙ c.picked.ensures) e
+    (omega (arith, c.requires.few, c.loop-i-test.true)) c.loop-i.invariant (sym c.in_ok-picked.was ∙ c.picked.ensures) e
 
 pub returns : goal.returns
 returns g c =

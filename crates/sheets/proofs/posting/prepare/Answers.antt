@@ -4,18 +4,18 @@ use Rattle.sheets.proofs.Preparing.{tops_fail, B_fail, prepared}
 use Rattle.sheets.specs.Words.{numbers_of}
 use Rattle.sheets.proofs.posting.prepare.Goals as goal
 
-pub returns-in-err-lay-moves : goal.returns-in-err-lay-moves
-returns-in-err-lay-moves g c =
+pub returns-in_err-lay_moves : goal.returns-in_err-lay_moves
+returns-in_err-lay_moves g c =
     let r = err_from_is_err_and c.from-residual.result c.from-residual.ensures.1 in
-    let w = c.in-err-lay-moves.ensures in
-    rw r.1 (tops_fail g.K.Kind.arith (numbers_of g.K.Kind.arith c.args.coefficients.now) c.args.right (length c.args.coefficients.now) c.args.at c.args.count c.args.cells.now c.requires.main c.requires.room c.lay-moves.new.cells w.1 w.0)
+    let w = c.in_err-lay_moves.ensures in
+    rw r.1 (tops_fail g.K.Kind.arith (numbers_of g.K.Kind.arith c.args.coefficients.now) c.args.right (length c.args.coefficients.now) c.args.at c.args.count c.args.cells.now c.requires.main c.requires.room c.lay_moves.new.cells w.1 w.0)
 
-pub returns-in-default : goal.returns-in-default
-returns-in-default g c =
-    let w = c.in-ok-lay-moves.ensures in
-    B_fail g.K.Kind.arith (numbers_of g.K.Kind.arith c.args.coefficients.now) c.args.right (length c.args.coefficients.now) c.args.at c.args.count c.args.cells.now c.requires.main c.requires.room c.lay-moves.new.cells w.1 c.negative.result c.negative.ensures (sym c.running-sum.ensures ∙ c.in-default.is)
+pub returns-in_default : goal.returns-in_default
+returns-in_default g c =
+    let w = c.in_ok-lay_moves.ensures in
+    B_fail g.K.Kind.arith (numbers_of g.K.Kind.arith c.args.coefficients.now) c.args.right (length c.args.coefficients.now) c.args.at c.args.count c.args.cells.now c.requires.main c.requires.room c.lay_moves.new.cells w.1 c.negative.result c.negative.ensures (sym c.running_sum.ensures ∙ c.in_default.is)
 
 pub returns : goal.returns
 returns g c =
-    let w = c.in-ok-lay-moves.ensures in
-    prepared g.K.Kind.arith (numbers_of g.K.Kind.arith c.args.coefficients.now) c.args.right (length c.args.coefficients.now) c.args.at c.args.count c.args.cells.now c.requires.main c.requires.room c.lay-moves.new.cells w.1 c.lay-column.new.cells c.negative.result c.in-Some.top w.0 c.negative.ensures (sym c.running-sum.ensures ∙ c.in-Some.is) c.lay-column.ensures
+    let w = c.in_ok-lay_moves.ensures in
+    prepared g.K.Kind.arith (numbers_of g.K.Kind.arith c.args.coefficients.now) c.args.right (length c.args.coefficients.now) c.args.at c.args.count c.args.cells.now c.requires.main c.requires.room c.lay_moves.new.cells w.1 c.lay_column.new.cells c.negative.result c.in-Some.top w.0 c.negative.ensures (sym c.running_sum.ensures ∙ c.in-Some.is) c.lay_column.ensures

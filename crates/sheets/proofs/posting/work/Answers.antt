@@ -12,28 +12,28 @@ prepare-requires g c =
     let k : c.args.count * n ≤ n * n = mul-le-mul_right n c.requires.few in
     record { main = omega (arith, m, o, k, c.requires.place); room = c.requires.room }
 
-pub returns-in-err-prepare : goal.returns-in-err-prepare
-returns-in-err-prepare g c =
+pub returns-in_err-prepare : goal.returns-in_err-prepare
+returns-in_err-prepare g c =
     let p = err_from_is_err_and c.from-residual.result c.from-residual.ensures.1 in
-    let w = c.in-err-prepare.ensures in
+    let w = c.in_err-prepare.ensures in
     prepare_fails g.K.Kind.arith (numbers_of g.K.Kind.arith c.args.coefficients.now) c.args.right (length c.args.coefficients.now) c.args.at c.args.count c.args.cells.now c.requires.place c.prepare.new.cells w.1 c.from-residual.result (p.1 ∙ ap Err p.2) w.0
 
-pub returns-then-is-zero : goal.returns-then-is-zero
-returns-then-is-zero g c =
+pub returns-then-is_zero : goal.returns-then-is_zero
+returns-then-is_zero g c =
     let a = g.K.Kind.arith in
-    let w = c.in-ok-prepare.ensures in
+    let w = c.in_ok-prepare.ensures in
     flat_implied a (numbers_of g.K.Kind.arith c.args.coefficients.now) c.args.right (length c.args.coefficients.now) c.args.at c.args.count c.args.cells.now c.requires.place c.prepare.new.cells w.2 w.0 w.1
-    (sym c.all-zero.ensures ∙ c.if-all-zero.true) (ap (λ x. eqb (a.size x) 0) (sym c.read.ensures) ∙ sym c.is-zero.ensures ∙ c.if-is-zero.true)
+    (sym c.all_zero.ensures ∙ c.if-all_zero.true) (ap (λ x. eqb (a.size x) 0) (sym c.read.ensures) ∙ sym c.is_zero.ensures ∙ c.if-is_zero.true)
 
-pub returns-then-all-zero : goal.returns-then-all-zero
-returns-then-all-zero g c =
+pub returns-then-all_zero : goal.returns-then-all_zero
+returns-then-all_zero g c =
     let a = g.K.Kind.arith in
-    let w = c.in-ok-prepare.ensures in
+    let w = c.in_ok-prepare.ensures in
     flat_contradicted a (numbers_of g.K.Kind.arith c.args.coefficients.now) c.args.right (length c.args.coefficients.now) c.args.at c.args.count c.args.cells.now c.requires.place c.prepare.new.cells w.2 w.0 w.1
-    (sym c.all-zero.ensures ∙ c.if-all-zero.true) (ap (λ x. eqb (a.size x) 0) (sym c.read.ensures) ∙ sym c.is-zero.ensures ∙ c.if-is-zero.false)
+    (sym c.all_zero.ensures ∙ c.if-all_zero.true) (ap (λ x. eqb (a.size x) 0) (sym c.read.ensures) ∙ sym c.is_zero.ensures ∙ c.if-is_zero.false)
 
 pub returns : goal.returns
 returns g c =
-    let w = c.in-ok-prepare.ensures in
+    let w = c.in_ok-prepare.ensures in
     not_flat g.K.Kind.arith (numbers_of g.K.Kind.arith c.args.coefficients.now) c.args.right (length c.args.coefficients.now) c.args.at c.args.count c.args.cells.now c.requires.place c.prepare.new.cells w.2 w.0 w.1
-    c.settle.result c.settle.new.cells (sym c.all-zero.ensures ∙ c.if-all-zero.false) c.settle.ensures
+    c.settle.result c.settle.new.cells (sym c.all_zero.ensures ∙ c.if-all_zero.false) c.settle.ensures

@@ -6,14 +6,14 @@ use Rattle.sheets.proofs.Limits.{within_wider}
 use Rattle.sheets.proofs.Rounding.{columns_apart, round_first_none, round_came, second_room}
 use Rattle.sheets.proofs.rounds.round.Goals as goal
 
-pub returns-in-err-reduce : goal.returns-in-err-reduce
-returns-in-err-reduce g c =
+pub returns-in_err-reduce : goal.returns-in_err-reduce
+returns-in_err-reduce g c =
     let a = g.K.Kind.arith in
     let cs = c.args.cells.now in
     let n = c.args.n in
     let p = err_from_is_err_and c.from-residual.result c.from-residual.ensures.1 in
-    let e = subst (λ (q : ℕ). reduced a (column_at a cs n c.args.at) (column_at a cs n q) ≡ None) c.place-p.ensures.value c.in-err-reduce.ensures.0 in
-    rw p.1 (round_first_none a n c.args.at c.args.count c.args.pivot c.args.runner cs c.requires.room c.requires.pivot c.requires.runner c.requires.other e, within_wider c.in-err-reduce.ensures.1 (omega arith) (omega arith))
+    let e = subst (λ (q : ℕ). reduced a (column_at a cs n c.args.at) (column_at a cs n q) ≡ None) c.place-p.ensures.value c.in_err-reduce.ensures.0 in
+    rw p.1 (round_first_none a n c.args.at c.args.count c.args.pivot c.args.runner cs c.requires.room c.requires.pivot c.requires.runner c.requires.other e, within_wider c.in_err-reduce.ensures.1 (omega arith) (omega arith))
 
 pub reduce-requires-2 : goal.reduce-requires-2
 reduce-requires-2 g c =
@@ -21,7 +21,7 @@ reduce-requires-2 g c =
     let cs = c.args.cells.now in
     let ds = c.reduce.new.cells in
     let n = c.args.n in
-    let w = c.in-ok-reduce.ensures in
+    let w = c.in_ok-reduce.ensures in
     let e = subst (λ (q : ℕ). reduced a (column_at a cs n c.args.at) (column_at a cs n q) ≡ Some (column_at a ds n c.args.at)) c.place-p.ensures.value w.0 in
     let s = second_room a n c.args.at c.args.count c.args.pivot c.args.runner cs c.requires.room c.requires.pivot c.requires.runner c.requires.other ds e w.1 in
     let vp = c.place-p.ensures.value in
@@ -40,7 +40,7 @@ returns g c =
     let ds = c.reduce.new.cells in
     let es = c.reduce-2.new.cells in
     let n = c.args.n in
-    let w = c.in-ok-reduce.ensures in
+    let w = c.in_ok-reduce.ensures in
     let vp = c.place-p.ensures.value in
     let vr = c.place-r.ensures.value in
     let e = subst (λ (q : ℕ). reduced a (column_at a cs n c.args.at) (column_at a cs n q) ≡ Some (column_at a ds n c.args.at)) vp w.0 in

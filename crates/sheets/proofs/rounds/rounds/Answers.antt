@@ -12,7 +12,7 @@ loop-pivot-smaller g c =
     let n = c.args.n in
     let p = c.args.at in
     let k = c.args.count in
-    let w = subst (λ (o : Option ℕ). Turned a (turn a (work_at a cs n p k)) n p k cs (Ok o) ds) c.in-default.is c.in-ok-pivot.ensures in
+    let w = subst (λ (o : Option ℕ). Turned a (turn a (work_at a cs n p k)) n p k cs (Ok o) ds) c.in_default.is c.in_ok-pivot.ensures in
     falls a g.met.K.Kind.kept n p k cs ds w.0
 
 pub loop-pivot-preserved : goal.loop-pivot-preserved
@@ -23,7 +23,7 @@ loop-pivot-preserved g c =
     let n = c.args.n in
     let p = c.args.at in
     let k = c.args.count in
-    let w = subst (λ (o : Option ℕ). Turned a (turn a (work_at a cs n p k)) n p k cs (Ok o) ds) c.in-default.is c.in-ok-pivot.ensures in
+    let w = subst (λ (o : Option ℕ). Turned a (turn a (work_at a cs n p k)) n p k cs (Ok o) ds) c.in_default.is c.in_ok-pivot.ensures in
     far_more a g.met.K.Kind.kept n p k c.args.cells.now cs ds c.loop-pivot.invariant w.0 w.1
 
 pub returns : goal.returns
@@ -34,5 +34,5 @@ returns g c =
     let n = c.args.n in
     let p = c.args.at in
     let k = c.args.count in
-    let w = subst (λ (o : Option ℕ). Turned a (turn a (work_at a cs n p k)) n p k cs (Ok o) ds) c.in-Some.is c.in-ok-pivot.ensures in
+    let w = subst (λ (o : Option ℕ). Turned a (turn a (work_at a cs n p k)) n p k cs (Ok o) ds) c.in-Some.is c.in_ok-pivot.ensures in
     subst (λ (x : List g.row.K-Cell.Denot). Ended a n p k c.args.cells.now (Ok c.in-Some.pivot) x) (sym w.1) (far_stop a g.met.K.Kind.kept n p k c.args.cells.now cs c.in-Some.pivot c.loop-pivot.invariant w.0)

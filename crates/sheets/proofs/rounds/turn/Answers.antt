@@ -5,20 +5,20 @@ use Rattle.sheets.proofs.Limits.{within_same}
 use Rattle.sheets.proofs.Turning.{turn_fails, turn_alone, turn_zero, turn_round, pivot_not_runner}
 use Rattle.sheets.proofs.rounds.turn.Goals as goal
 
-pub returns-in-default : goal.returns-in-default
-returns-in-default g c = (turn_fails g.K.Kind.arith c.args.n c.args.at c.args.count c.args.cells.now (sym c.largest.ensures.value ∙ c.in-default.is), within_same)
+pub returns-in_default : goal.returns-in_default
+returns-in_default g c = (turn_fails g.K.Kind.arith c.args.n c.args.at c.args.count c.args.cells.now (sym c.largest.ensures.value ∙ c.in_default.is), within_same)
 
-pub returns-in-default-largest : goal.returns-in-default-largest
-returns-in-default-largest g c = (
-  turn_alone g.K.Kind.arith c.args.n c.args.at c.args.count c.args.cells.now c.in-Some.pivot (sym c.largest.ensures.value ∙ c.in-Some.is) (sym c.largest-2.ensures.value ∙ c.in-default-largest.is),
+pub returns-in_default-largest : goal.returns-in_default-largest
+returns-in_default-largest g c = (
+  turn_alone g.K.Kind.arith c.args.n c.args.at c.args.count c.args.cells.now c.in-Some.pivot (sym c.largest.ensures.value ∙ c.in-Some.is) (sym c.largest-2.ensures.value ∙ c.in_default-largest.is),
   refl,
 )
 
-pub returns-then-is-zero : goal.returns-then-is-zero
-returns-then-is-zero g c =
+pub returns-then-is_zero : goal.returns-then-is_zero
+returns-then-is_zero g c =
     let a = g.K.Kind.arith in (
       turn_zero a c.args.n c.args.at c.args.count c.args.cells.now c.in-Some.pivot (sym c.largest.ensures.value ∙ c.in-Some.is) c.in-Some-largest.runner (sym c.largest-2.ensures.value ∙ c.in-Some-largest.is)
-          (ap (λ x. eqb (a.size x) 0) (sym c.top.ensures) ∙ sym c.is-zero.ensures ∙ c.if-is-zero.true),
+          (ap (λ x. eqb (a.size x) 0) (sym c.top.ensures) ∙ sym c.is_zero.ensures ∙ c.if-is_zero.true),
       refl,
     )
 
@@ -32,18 +32,18 @@ round-requires g c =
       other = pivot_not_runner a c.args.n c.args.at c.args.count c.args.cells.now c.in-Some.pivot (sym c.largest.ensures.value ∙ c.in-Some.is) c.in-Some-largest.runner (sym c.largest-2.ensures.value ∙ c.in-Some-largest.is);
     }
 
-pub returns-in-err-round : goal.returns-in-err-round
-returns-in-err-round g c =
+pub returns-in_err-round : goal.returns-in_err-round
+returns-in_err-round g c =
     let a = g.K.Kind.arith in
     let p = err_from_is_err_and c.from-residual.result c.from-residual.ensures.1 in
     let t = turn_round a c.args.n c.args.at c.args.count c.args.cells.now c.in-Some.pivot (sym c.largest.ensures.value ∙ c.in-Some.is) c.in-Some-largest.runner (sym c.largest-2.ensures.value ∙ c.in-Some-largest.is)
-    (ap (λ x. eqb (a.size x) 0) (sym c.top.ensures) ∙ sym c.is-zero.ensures ∙ c.if-is-zero.false) in
-    rw p.1 (t ∙ ap (turned a) c.in-err-round.ensures.0, c.in-err-round.ensures.1)
+    (ap (λ x. eqb (a.size x) 0) (sym c.top.ensures) ∙ sym c.is_zero.ensures ∙ c.if-is_zero.false) in
+    rw p.1 (t ∙ ap (turned a) c.in_err-round.ensures.0, c.in_err-round.ensures.1)
 
 pub returns : goal.returns
 returns g c =
     let a = g.K.Kind.arith in
     let t = turn_round a c.args.n c.args.at c.args.count c.args.cells.now c.in-Some.pivot (sym c.largest.ensures.value ∙ c.in-Some.is) c.in-Some-largest.runner (sym c.largest-2.ensures.value ∙ c.in-Some-largest.is)
-    (ap (λ x. eqb (a.size x) 0) (sym c.top.ensures) ∙ sym c.is-zero.ensures ∙ c.if-is-zero.false) in
-    let w = c.in-ok-round.ensures in
+    (ap (λ x. eqb (a.size x) 0) (sym c.top.ensures) ∙ sym c.is_zero.ensures ∙ c.if-is_zero.false) in
+    let w = c.in_ok-round.ensures in
     (t ∙ ap (turned a) w.0, w.1)

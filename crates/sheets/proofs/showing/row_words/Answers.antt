@@ -9,7 +9,7 @@ loop-i-preserved g c =
     let a = g.K.Kind.arith in
     let i = c.loop-i.i in
     let w = to_z w32 (of_z w32 c.write.result) in
-    let e : w ≡ a.write c.read.result = to_z-of_z w32 c.write.result (record { sfits = c.write.type-inv }) ∙ c.write.ensures in
+    let e : w ≡ a.write c.read.result = to_z-of_z w32 c.write.result (record { sfits = c.write.type_inv }) ∙ c.write.ensures in
     let inside : i < length c.loop-i.words = omega (arith, c.requires.few, c.loop-i-test.true, c.loop-i.invariant.1) in (
       words_more a c.args.cells.now c.args.from c.args.n c.requires.room c.loop-i.words i c.read.result w c.loop-i-test.true inside c.loop-i.invariant.0 c.read.ensures e,
       length-set c.loop-i.words i w ∙ c.loop-i.invariant.1,

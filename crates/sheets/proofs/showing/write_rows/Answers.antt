@@ -9,36 +9,36 @@ pub loop-j-init : goal.loop-j-init
 loop-j-init g c =
     let a = g.K.Kind.arith in (
       refl,
-      no_text (model c.args.page.now) (row_text a 131 (numbers a (part 0 c.args.n c.args.cells.now))) (model c.write-row.new.page) c.write-row.ensures.model,
+      no_text (model c.args.page.now) (row_text a 131 (numbers a (part 0 c.args.n c.args.cells.now))) (model c.write_row.new.page) c.write_row.ensures.model,
     )
 
-pub write-row-requires-in-loop-j : goal.write-row-requires-in-loop-j
-write-row-requires-in-loop-j g c =
+pub write_row-requires-in-loop-j : goal.write_row-requires-in-loop-j
+write_row-requires-in-loop-j g c =
     let a = g.K.Kind.arith in
     let cells = c.args.cells.now in
     let m = model c.args.page.now in
-    let m1 = model c.write-row.new.page in
+    let m1 = model c.write_row.new.page in
     record {
-      room = c.move-place-from.ensures.within;
+      room = c.move_place-from.ensures.within;
       few = c.requires.few;
-      idle = rows_idle a cells c.args.n c.args.count c.requires.room m m1 c.requires.page c.write-row.ensures.model (model c.loop-j.page) c.loop-j.j c.loop-j.invariant.1;
-      page = rows_room a cells c.args.n c.args.count c.requires.room m m1 c.requires.page c.write-row.ensures.model (model c.loop-j.page) c.loop-j.j c.loop-j-test.true c.loop-j.invariant.1;
+      idle = rows_idle a cells c.args.n c.args.count c.requires.room m m1 c.requires.page c.write_row.ensures.model (model c.loop-j.page) c.loop-j.j c.loop-j.invariant.1;
+      page = rows_room a cells c.args.n c.args.count c.requires.room m m1 c.requires.page c.write_row.ensures.model (model c.loop-j.page) c.loop-j.j c.loop-j-test.true c.loop-j.invariant.1;
     }
 
 pub loop-j-preserved : goal.loop-j-preserved
 loop-j-preserved g c =
     let a = g.K.Kind.arith in (
-      c.write-row-in-loop-j.ensures.held ∙ c.loop-j.invariant.0,
-      shows_more a c.args.cells.now c.args.n c.args.count c.requires.room (model c.args.page.now) (model c.write-row.new.page) c.requires.page c.write-row.ensures.model
-          (model c.loop-j.page) (model c.write-row-in-loop-j.new.page) c.loop-j.j c.move-place-from.result c.loop-j-test.true c.move-place-from.ensures.value c.loop-j.invariant.1 c.write-row-in-loop-j.ensures.model,
+      c.write_row-in-loop-j.ensures.held ∙ c.loop-j.invariant.0,
+      shows_more a c.args.cells.now c.args.n c.args.count c.requires.room (model c.args.page.now) (model c.write_row.new.page) c.requires.page c.write_row.ensures.model
+          (model c.loop-j.page) (model c.write_row-in-loop-j.new.page) c.loop-j.j c.move_place-from.result c.loop-j-test.true c.move_place-from.ensures.value c.loop-j.invariant.1 c.write_row-in-loop-j.ensures.model,
     )
 
 pub returns : goal.returns
 returns g c =
     let a = g.K.Kind.arith in
     record {
-      held = c.loop-j.invariant.0 ∙ c.write-row.ensures.held;
+      held = c.loop-j.invariant.0 ∙ c.write_row.ensures.held;
       model =
-          shows_end a c.args.cells.now c.args.n c.args.count c.requires.room (model c.args.page.now) (model c.write-row.new.page) c.requires.page c.write-row.ensures.model
+          shows_end a c.args.cells.now c.args.n c.args.count c.requires.room (model c.args.page.now) (model c.write_row.new.page) c.requires.page c.write_row.ensures.model
           (model c.loop-j.page) c.loop-j.j (omega arith) c.loop-j.invariant.1;
     }

@@ -8,7 +8,7 @@ returns c =
     let v = view c.args.self.now in
     let line = c.args.line.now in
     let old = c.args.plan.now in
-    let e = c.in-ok-asked.ensures.asked in
+    let e = c.in_ok-asked.ensures.asked in
     let n = c.first.ensures ∙ e.3 in
     record {
       answer = c.act.ensures.answer ∙ (λ j. act v (e.1 j) (n j)) ∙ ap (λ (o : Option LineFault). answer_by o v line) (sym e.0);

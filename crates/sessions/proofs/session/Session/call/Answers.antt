@@ -26,13 +26,13 @@ returns-then-out-lt-OUTPUT c =
       law = λ e. absurd (some_none (sym n ∙ e));
     }
 
-pub returns-then-words-lt-MOST-NUMBERS : goal.returns-then-words-lt-MOST-NUMBERS
-returns-then-words-lt-MOST-NUMBERS c =
+pub returns-then-words-lt-MOST_NUMBERS : goal.returns-then-words-lt-MOST_NUMBERS
+returns-then-words-lt-MOST_NUMBERS c =
     let v = view c.args.self.now in
     let line = c.args.line.now in
     let out = c.args.out.now in
     let words = c.args.words.now in
-    let n = few_words (length out) (length words) c.if-out-lt-OUTPUT.false c.if-words-lt-MOST-NUMBERS.true in
+    let n = few_words (length out) (length words) c.if-out-lt-OUTPUT.false c.if-words-lt-MOST_NUMBERS.true in
     record {
       value = ap (λ (o : Option SheetFault). call_answer o (reply v c.args.number line)) (sym n);
       within = tt;
@@ -48,30 +48,30 @@ returns c =
     let v = view c.args.self.now in
     let line = c.args.line.now in
     let out = c.args.out.now in
-    let answer = c.answer-line-answer.result in
-    let after = view c.answer-line-answer.new.self in
-    let plan = c.answer-line-answer.new.plan in
-    let e = c.answer-line-answer.ensures.answer in
-    let l = c.answer-line-answer.ensures.left in
+    let answer = c.answer_line-answer.result in
+    let after = view c.answer_line-answer.new.self in
+    let plan = c.answer_line-answer.new.plan in
+    let e = c.answer_line-answer.ensures.answer in
+    let l = c.answer_line-answer.ensures.left in
     let there : answer ≡ Ok Shown → Stands after = λ h. subst Stands (sym l) (shown_stands v line (sym e ∙ h)) in
     let old = replicate 24 (pos 0) in
-    let p : plan ≡ line_plan v line old = c.answer-line-answer.ensures.plan in
+    let p : plan ≡ line_plan v line old = c.answer_line-answer.ensures.plan in
     let picked : answer ≡ Ok Picked → take (unknowns_of after) plan ≡ picked_of after (numbers line)
     = λ h. ap (take (unknowns_of after)) p ∙ ap (λ (w : View). take (unknowns_of w) (line_plan v line old)) l ∙ plan_picked v line old (small c.args.self.now) (lit≤ tt) (sym e ∙ h) ∙ sym (ap (λ (w : View). picked_of w (numbers line)) l) in
-    let n = enough_lent (length out) (length c.args.words.now) c.if-out-lt-OUTPUT.false c.if-words-lt-MOST-NUMBERS.false in
-    let first : model c.write-reply.new.page ≡ replied after plan c.args.number answer (empty_page out) = search rules in
-    let page : model c.write-reply.new.page ≡ with_text (empty_page out) (reply v c.args.number line)
+    let n = enough_lent (length out) (length c.args.words.now) c.if-out-lt-OUTPUT.false c.if-words-lt-MOST_NUMBERS.false in
+    let first : model c.write_reply.new.page ≡ replied after plan c.args.number answer (empty_page out) = search rules in
+    let page : model c.write_reply.new.page ≡ with_text (empty_page out) (reply v c.args.number line)
     = first
-    ∙ reply_written after (numbers line) plan answer (empty_page out) c.args.number (small c.answer-line-answer.new.self) there picked c.if-out-lt-OUTPUT.false
+    ∙ reply_written after (numbers line) plan answer (empty_page out) c.args.number (small c.answer_line-answer.new.self) there picked c.if-out-lt-OUTPUT.false
     ∙ (λ j. with_text (empty_page out) (answer_text c.args.number (e j) ++ rest_text (l j) (numbers line) (e j))) in
-    let after_is : view c.write-reply.new.self ≡ line_after v line = c.write-reply.ensures.kept ∙ l in
+    let after_is : view c.write_reply.new.self ≡ line_after v line = c.write_reply.ensures.kept ∙ l in
     record {
       value = ap Ok (c.end.ensures ∙ ap (λ (x : PageModel). x.end) page ∙ zero-add (length (reply v c.args.number line))) ∙ ap (λ (o : Option SheetFault). call_answer o (reply v c.args.number line)) (sym n);
       within = search rules;
       out =
-          ◌∙◌ {b = c.write-reply.new.page.bytes.now} (search rules)
+          ◌∙◌ {b = c.write_reply.new.page.bytes.now} (search rules)
           (ap (λ (x : PageModel). x.bytes) page ∙ ap (λ (o : Option SheetFault). kept_if o out (over out 0 (reply v c.args.number line))) (sym n));
-      words = c.answer-line-answer.ensures.words ∙ ap (λ (o : Option SheetFault). kept_if o c.args.words.now (wiped c.args.words.now)) (sym n);
+      words = c.answer_line-answer.ensures.words ∙ ap (λ (o : Option SheetFault). kept_if o c.args.words.now (wiped c.args.words.now)) (sym n);
       session = after_is ∙ ap (λ (o : Option SheetFault). kept_if o v (line_after v line)) (sym n);
       law = λ _. subst (LineLaw v line) (sym after_is) (line_law v line (small c.args.self.now));
     }

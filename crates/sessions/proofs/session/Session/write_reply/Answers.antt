@@ -5,11 +5,11 @@ use Rattle.sessions.specs.Session.{view, answer_text, page_after, replied}
 use Rattle.sessions.proofs.Replies.{answer_room}
 use Rattle.sessions.proofs.session.Session.write_reply.Goals as goal
 
-pub write-rest-requires : goal.write-rest-requires
-write-rest-requires c = record {
+pub write_rest-requires : goal.write_rest-requires
+write_rest-requires c = record {
   plan = c.requires.plan;
-  idle = ap (λ (p : Model). p.begun) c.write-answer.ensures.model;
-  room = answer_room (model c.args.page.now) (model c.write-answer.new.page) (to_z w32 (of_z w32 c.args.number)) c.args.answer c.write-answer.ensures.model c.requires.room;
+  idle = ap (λ (p : Model). p.begun) c.write_answer.ensures.model;
+  room = answer_room (model c.args.page.now) (model c.write_answer.new.page) (to_z w32 (of_z w32 c.args.number)) c.args.answer c.write_answer.ensures.model c.requires.room;
 }
 
 pub returns : goal.returns
@@ -19,10 +19,10 @@ returns c =
     let plan = c.args.plan.now in
     let answer = c.args.answer in
     record {
-      held = c.write-rest.ensures.held ∙ c.write-answer.ensures.held;
-      kept = c.write-rest.ensures.kept;
+      held = c.write_rest.ensures.held ∙ c.write_answer.ensures.held;
+      kept = c.write_rest.ensures.kept;
       page =
-          c.write-rest.ensures.page
-          ∙ ap (page_after v plan answer) c.write-answer.ensures.model
+          c.write_rest.ensures.page
+          ∙ ap (page_after v plan answer) c.write_answer.ensures.model
           ∙ ap (λ (n : ℤ). page_after v plan answer (with_text (model c.args.page.now) (answer_text n answer))) (to_z-of_z w32 c.args.number c.ranges.number);
     }

@@ -13,7 +13,7 @@ pub returns-in-Ok : goal.returns-in-Ok
 returns-in-Ok c =
     let bytes = c.args.line.now in
     let old = c.args.self.now.words.now in
-    let words : List ℤ = c.read-line.new.words in
+    let words : List ℤ = c.read_line.new.words in
     let a = read_ok (length old) known bytes c.in-Ok.read c.requires (sym c.in-Ok.ensures.value) in
     let w = accepted known bytes a.0 in
     let k = ap (λ (l : Line). l.count) a.1 in
@@ -37,5 +37,5 @@ returns-in-Err c =
     let bytes = c.args.line.now in
     let old = c.args.self.now.words.now in
     let e = read_err (length old) known bytes c.in-Err.fault c.requires (sym c.in-Err.ensures.value) in
-    let left : c.read-line.new.words ≡ old = c.in-Err.ensures.after ∙ ap (λ (o : Option LineFault). words_left o bytes old) (enough (length old) known bytes c.requires ∙ e) in
+    let left : c.read_line.new.words ≡ old = c.in-Err.ensures.after ∙ ap (λ (o : Option LineFault). words_left o bytes old) (enough (length old) known bytes c.requires ∙ e) in
     record { held = refl; asked = e; len = ap length left; wiped = ap wiped left }

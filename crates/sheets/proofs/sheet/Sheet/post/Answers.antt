@@ -20,35 +20,35 @@ returns-in-Ok-Taken g c =
     let s = c.args.self.now.shape in
     let m = model c.args.self.now in
     let ws = c.args.words.now in
-    let r = c.post-numbers-answer.result in
-    let after : Model g.row.K-Cell.Denot = record { cells = c.post-numbers-answer.new.cells; unknowns = s.unknowns; moves = s.moves - 1; list = s.list } in
+    let r = c.post_numbers-answer.result in
+    let after : Model g.row.K-Cell.Denot = record { cells = c.post_numbers-answer.new.cells; unknowns = s.unknowns; moves = s.moves - 1; list = s.list } in
     let answer : r ≡ post_answer a m ws = search rules in
     let left : after ≡ post_left a m ws = search rules in
-    let k = post_keeps a g.met.K.Kind.kept m s.few ws (λ _. c.in-default.ensures.fit) r after answer left in
+    let k = post_keeps a g.met.K.Kind.kept m s.few ws (λ _. c.in_default.ensures.fit) r after answer left in
     record { held = refl; answer = answer; left = left; refusals = k.refusals; law = k.law; sound = k.sound; spare = k.spare; wiped = k.wiped }
 
-pub returns-in-default : goal.returns-in-default
-returns-in-default g c =
+pub returns-in_default : goal.returns-in_default
+returns-in_default g c =
     let a = g.K.Kind.arith in
     let s = c.args.self.now.shape in
     let m = model c.args.self.now in
     let ws = c.args.words.now in
-    let r = c.post-numbers-answer.result in
-    let after : Model g.row.K-Cell.Denot = record { cells = c.post-numbers-answer.new.cells; unknowns = s.unknowns; moves = s.moves; list = s.list } in
+    let r = c.post_numbers-answer.result in
+    let after : Model g.row.K-Cell.Denot = record { cells = c.post_numbers-answer.new.cells; unknowns = s.unknowns; moves = s.moves; list = s.list } in
     let answer : r ≡ post_answer a m ws = search rules in
     let left : after ≡ post_left a m ws = search rules in
-    let k = post_keeps a g.met.K.Kind.kept m s.few ws (λ _. c.in-default.ensures.fit) r after answer left in
+    let k = post_keeps a g.met.K.Kind.kept m s.few ws (λ _. c.in_default.ensures.fit) r after answer left in
     record { held = refl; answer = answer; left = left; refusals = k.refusals; law = k.law; sound = k.sound; spare = k.spare; wiped = k.wiped }
 
-pub returns-in-default·2 : goal.returns-in-default·2
-returns-in-default·2 g c =
+pub returns-in_default-2 : goal.returns-in_default-2
+returns-in_default-2 g c =
     let a = g.K.Kind.arith in
     let s = c.args.self.now.shape in
     let m = model c.args.self.now in
     let ws = c.args.words.now in
-    let r = c.post-numbers-answer.result in
-    let after : Model g.row.K-Cell.Denot = record { cells = c.post-numbers-answer.new.cells; unknowns = s.unknowns; moves = s.moves; list = s.list } in
+    let r = c.post_numbers-answer.result in
+    let after : Model g.row.K-Cell.Denot = record { cells = c.post_numbers-answer.new.cells; unknowns = s.unknowns; moves = s.moves; list = s.list } in
     let answer : r ≡ post_answer a m ws = search rules in
     let left : after ≡ post_left a m ws = search rules in
-    let k = post_keeps a g.met.K.Kind.kept m s.few ws (λ _. c.in-default.ensures.fit) r after answer left in
+    let k = post_keeps a g.met.K.Kind.kept m s.few ws (λ _. c.in_default.ensures.fit) r after answer left in
     record { held = refl; answer = answer; left = left; refusals = k.refusals; law = k.law; sound = k.sound; spare = k.spare; wiped = k.wiped }
