@@ -19,15 +19,15 @@ pub fn samples_stand() -> u8
 // The rounds of a posting end, in every kind: their number is bounded by the sizes of the tops. And a posting overflows
 // only where one of its add-products gives none.
 pub fn rounds_end<K: Kind>() -> u8
-    ensures turns { EnoughTurns arith }
-    ensures products { OnlyProducts arith }
+    ensures turns { EnoughTurns K.arith }
+    ensures products { OnlyProducts K.arith }
 {
     0
 }
 
 // A new sheet stands for no equation, in every kind: every plan is made, each by one choice.
 pub fn new_sheet_general<K: Kind>() -> u8
-    ensures { NewGeneral arith }
+    ensures { NewGeneral K.arith }
 {
     0
 }
@@ -35,7 +35,7 @@ pub fn new_sheet_general<K: Kind>() -> u8
 // A posting to a sheet that stands for equations comes out right, in every kind: what it answers tells which plans meet
 // the equation too, and one that is taken leaves a sheet that stands for it as well.
 pub fn posting_exact<K: Kind>() -> u8
-    ensures { PostingExact arith }
+    ensures { PostingExact K.arith }
 {
     0
 }

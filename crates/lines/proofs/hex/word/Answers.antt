@@ -8,13 +8,13 @@ use Rattle.lines.proofs.hex.word.Goals as goal
 
 pub overflow_mul-n : goal.overflow_mul-n
 overflow_mul-n c =
-    let s = number_front c.args.digits.now c.loop-b.b-index c.requires.1 (omega arith) in
+    let s = number_front c.args.digits.now c.loop-b.b-index c.requires.hex (omega arith) in
     omega (arith, s, c.loop-b.invariant)
 
 pub overflow_add-n : goal.overflow_add-n
 overflow_add-n c =
-    let s = number_front c.args.digits.now c.loop-b.b-index c.requires.1 (omega arith) in
-    let d = All-get_or (λ x. hex_value x < 16) c.args.digits.now c.loop-b.b-index 0 c.loop-b-test.true c.requires.1 in
+    let s = number_front c.args.digits.now c.loop-b.b-index c.requires.hex (omega arith) in
+    let d = All-get_or (λ x. hex_value x < 16) c.args.digits.now c.loop-b.b-index 0 c.loop-b-test.true c.requires.hex in
     omega (arith, s, d, c.loop-b.invariant, c.value.ensures)
 
 pub loop-b-preserved : goal.loop-b-preserved

@@ -8,7 +8,7 @@ use Rattle.lines.proofs.reading.read_line.Goals as goal
 
 pub returns-in_err-line : goal.returns-in_err-line
 returns-in_err-line c =
-    let p = err_from_is_err_and c.from-residual.result c.from-residual.ensures.1 in
+    let p = err_from_is_err_and c.from_residual.result c.from_residual.ensures.1 in
     let known = c.args.known.now in
     let bytes = c.args.bytes.now in
     let old = c.args.words.now in
@@ -27,7 +27,7 @@ unpack-requires c =
     let n = w.sized in
     let s = w.short in
     let m = c.if-words-lt-MOST_NUMBERS.false in
-    (omega arith, omega arith, w.hex, omega arith)
+    (record { count_bound = omega arith; bytes_len = omega arith; hex = w.hex; count_in_bounds = omega arith })
 
 pub returns : goal.returns
 returns c =
