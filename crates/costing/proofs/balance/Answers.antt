@@ -13,14 +13,14 @@ whole-requires-in-loop-i c =
     let cs = c.args.coefficients.now in
     let i = c.loop-i.i in
     let f : SFits w32 (get_or cs i (pos 0)) = search rules in
-    ap is_lowest (to_z-of_z w32 (get_or cs i (pos 0)) f) ∙ All-get_or (λ w. is_lowest w ≡ false) cs i (pos 0) (omega arith) (find_none is_lowest 0 cs c.requires.2)
+    ap is_lowest (to_z-of_z w32 (get_or cs i (pos 0)) f) ∙ All-get_or (λ w. is_lowest w ≡ false) cs i (pos 0) (omega arith) (find_none is_lowest 0 cs c.requires.coefficients_value)
 
 pub whole-requires-in-loop-i-2 : goal.whole-requires-in-loop-i-2
 whole-requires-in-loop-i-2 c =
     let xs = c.args.entries.now in
     let i = c.loop-i.i in
     let f : SFits w32 (get_or xs i (pos 0)) = search rules in
-    ap is_lowest (to_z-of_z w32 (get_or xs i (pos 0)) f) ∙ All-get_or (λ w. is_lowest w ≡ false) xs i (pos 0) (omega arith) (find_none is_lowest 0 xs c.requires.3)
+    ap is_lowest (to_z-of_z w32 (get_or xs i (pos 0)) f) ∙ All-get_or (λ w. is_lowest w ≡ false) xs i (pos 0) (omega arith) (find_none is_lowest 0 xs c.requires.entries_value)
 
 pub returns-in_err-sum : goal.returns-in_err-sum
 returns-in_err-sum c =
@@ -31,7 +31,7 @@ returns-in_err-sum c =
     let g : SFits w32 (get_or xs i (pos 0)) = search rules in
     let p = c.whole-in-loop-i.ensures ∙ to_z-of_z w32 (get_or cs i (pos 0)) f in
     let q = c.whole-in-loop-i-2.ensures ∙ to_z-of_z w32 (get_or xs i (pos 0)) g in
-    c.from-residual.ensures
+    c.from_residual.ensures
     ∙ running_more c.loop-i.sum cs xs i c.whole-in-loop-i.result c.whole-in-loop-i-2.result None (omega arith) (omega arith) p q (sym c.in_err-sum.was ∙ c.add_product.ensures)
     ∙ c.loop-i.invariant
     ∙ ap (λ (z : ℤ). running (fitted (neg_ℤ z)) cs xs) (to_z-of_z w32 c.args.right c.ranges.right)

@@ -17,7 +17,7 @@ returns-in_err-sum g c =
     let w = c.word_number-c.ensures ∙ sym (get_or-map (number_of a) c.args.coefficients.now i (pos 0) c.word_number-c.result c.loop-i-test.true) in
     let l = length_numbers_part a cells c.args.from n c.requires in
     let x = c.read.ensures ∙ sym (number_of_part a cells c.args.from n i c.requires c.loop-i-test.true) in
-    c.from-residual.ensures
+    c.from_residual.ensures
     ∙ running_more a c.loop-i.sum cs xs i c.word_number-c.result c.read.result None (omega (arith, k, c.loop-i-test.true)) (omega arith) w x (sym c.in_err-sum.was ∙ c.add_product.ensures)
     ∙ c.loop-i.invariant
 

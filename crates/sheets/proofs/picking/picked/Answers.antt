@@ -16,7 +16,7 @@ returns-in_err-sum g c =
     let choice = c.args.choice.now in
     let j = c.loop-j.j in
     let x = c.word_number.ensures ∙ sym (get_or-map (number_of a) choice j (pos 0) a.zero c.loop-j-test.true) in
-    c.from-residual.ensures
+    c.from_residual.ensures
     ∙ pick_more a c.args.cells.now c.args.n (length choice) c.args.i c.requires.room c.requires.there (numbers_of a choice) (length-map choice (number_of a))
     j c.move_place-from.result c.loop-j.sum c.read-entry.result c.word_number.result None c.loop-j-test.true c.move_place-from.ensures.value c.read-entry.ensures x (sym c.in_err-sum.was ∙ c.add_product.ensures) c.loop-j.invariant
 

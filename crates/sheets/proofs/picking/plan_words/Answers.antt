@@ -18,7 +18,7 @@ returns-in_err-picked g c =
     let s = contents_in a n (length c.args.choice.now) c.args.cells.now in
     let xs = numbers_of a c.args.choice.now in
     let e = fills_none a s xs n c.loop-i.i c.loop-i-test.true (sym c.in_err-picked.was ∙ c.picked.ensures) in
-    subst (Planned a (plan_of a n s xs) n) (sym c.from-residual.ensures) e
+    subst (Planned a (plan_of a n s xs) n) (sym c.from_residual.ensures) e
 
 pub loop-i-preserved : goal.loop-i-preserved
 loop-i-preserved g c =

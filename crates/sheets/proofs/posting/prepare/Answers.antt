@@ -6,7 +6,7 @@ use Rattle.sheets.proofs.posting.prepare.Goals as goal
 
 pub returns-in_err-lay_moves : goal.returns-in_err-lay_moves
 returns-in_err-lay_moves g c =
-    let r = err_from_is_err_and c.from-residual.result c.from-residual.ensures.1 in
+    let r = err_from_is_err_and c.from_residual.result c.from_residual.ensures.1 in
     let w = c.in_err-lay_moves.ensures in
     rw r.1 (tops_fail g.K.Kind.arith (numbers_of g.K.Kind.arith c.args.coefficients.now) c.args.right (length c.args.coefficients.now) c.args.at c.args.count c.args.cells.now c.requires.main c.requires.room c.lay_moves.new.cells w.1 w.0)
 

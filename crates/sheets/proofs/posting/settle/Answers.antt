@@ -7,25 +7,25 @@ use Rattle.sheets.proofs.posting.settle.Goals as goal
 
 pub returns-in_err-normalise : goal.returns-in_err-normalise
 returns-in_err-normalise g c =
-    let p = err_from_is_err_and c.from-residual.result c.from-residual.ensures.1 in
+    let p = err_from_is_err_and c.from_residual.result c.from_residual.ensures.1 in
     let w = c.in_err-normalise.ensures in
-    normal_fails g.K.Kind.arith c.args.n c.args.at c.args.count c.args.cells.now c.requires.place c.requires.few c.requires.room c.from-residual.result c.normalise.new.cells (p.1 ∙ ap Err p.2) w.0 w.1
+    normal_fails g.K.Kind.arith c.args.n c.args.at c.args.count c.args.cells.now c.requires.place c.requires.few c.requires.room c.from_residual.result c.normalise.new.cells (p.1 ∙ ap Err p.2) w.0 w.1
 
 pub returns-in_err-pivot : goal.returns-in_err-pivot
 returns-in_err-pivot g c =
-    let p = err_from_is_err_and c.from-residual-in_err-pivot.result c.from-residual-in_err-pivot.ensures.1 in
+    let p = err_from_is_err_and c.from_residual-in_err-pivot.result c.from_residual-in_err-pivot.ensures.1 in
     let u = c.in_ok-normalise.ensures in
     let w = c.in_err-pivot.ensures in
-    rounds_fail g.K.Kind.arith c.args.n c.args.at c.args.count c.args.cells.now c.requires.place c.requires.few c.requires.room c.normalise.new.cells u.0 u.1 c.from-residual-in_err-pivot.result c.rounds.new.cells (p.1 ∙ ap Err p.2) w.0 w.1
+    rounds_fail g.K.Kind.arith c.args.n c.args.at c.args.count c.args.cells.now c.requires.place c.requires.few c.requires.room c.normalise.new.cells u.0 u.1 c.from_residual-in_err-pivot.result c.rounds.new.cells (p.1 ∙ ap Err p.2) w.0 w.1
 
 pub returns-in_err-met : goal.returns-in_err-met
 returns-in_err-met g c =
-    let p = err_from_is_err_and c.from-residual-in_err-met.result c.from-residual-in_err-met.ensures.1 in
+    let p = err_from_is_err_and c.from_residual-in_err-met.result c.from_residual-in_err-met.ensures.1 in
     let u = c.in_ok-normalise.ensures in
     let v = c.in_ok-pivot.ensures in
     let w = c.in_err-met.ensures in
     finish_fails g.K.Kind.arith c.args.n c.args.at c.args.count c.args.cells.now c.requires.place c.requires.few c.requires.room c.normalise.new.cells u.0 u.1 c.in_ok-pivot.pivot c.rounds.new.cells v.0 v.1 v.2
-    c.from-residual-in_err-met.result c.finish.new.cells (p.1 ∙ ap Err p.2) w.0 w.1
+    c.from_residual-in_err-met.result c.finish.new.cells (p.1 ∙ ap Err p.2) w.0 w.1
 
 pub returns-then-not-met : goal.returns-then-not-met
 returns-then-not-met g c =

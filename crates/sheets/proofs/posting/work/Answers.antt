@@ -14,9 +14,9 @@ prepare-requires g c =
 
 pub returns-in_err-prepare : goal.returns-in_err-prepare
 returns-in_err-prepare g c =
-    let p = err_from_is_err_and c.from-residual.result c.from-residual.ensures.1 in
+    let p = err_from_is_err_and c.from_residual.result c.from_residual.ensures.1 in
     let w = c.in_err-prepare.ensures in
-    prepare_fails g.K.Kind.arith (numbers_of g.K.Kind.arith c.args.coefficients.now) c.args.right (length c.args.coefficients.now) c.args.at c.args.count c.args.cells.now c.requires.place c.prepare.new.cells w.1 c.from-residual.result (p.1 ∙ ap Err p.2) w.0
+    prepare_fails g.K.Kind.arith (numbers_of g.K.Kind.arith c.args.coefficients.now) c.args.right (length c.args.coefficients.now) c.args.at c.args.count c.args.cells.now c.requires.place c.prepare.new.cells w.1 c.from_residual.result (p.1 ∙ ap Err p.2) w.0
 
 pub returns-then-is_zero : goal.returns-then-is_zero
 returns-then-is_zero g c =

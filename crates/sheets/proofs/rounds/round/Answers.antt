@@ -11,7 +11,7 @@ returns-in_err-reduce g c =
     let a = g.K.Kind.arith in
     let cs = c.args.cells.now in
     let n = c.args.n in
-    let p = err_from_is_err_and c.from-residual.result c.from-residual.ensures.1 in
+    let p = err_from_is_err_and c.from_residual.result c.from_residual.ensures.1 in
     let e = subst (λ (q : ℕ). reduced a (column_at a cs n c.args.at) (column_at a cs n q) ≡ None) c.place-p.ensures.value c.in_err-reduce.ensures.0 in
     rw p.1 (round_first_none a n c.args.at c.args.count c.args.pivot c.args.runner cs c.requires.room c.requires.pivot c.requires.runner c.requires.other e, within_wider c.in_err-reduce.ensures.1 (omega arith) (omega arith))
 

@@ -35,7 +35,7 @@ round-requires g c =
 pub returns-in_err-round : goal.returns-in_err-round
 returns-in_err-round g c =
     let a = g.K.Kind.arith in
-    let p = err_from_is_err_and c.from-residual.result c.from-residual.ensures.1 in
+    let p = err_from_is_err_and c.from_residual.result c.from_residual.ensures.1 in
     let t = turn_round a c.args.n c.args.at c.args.count c.args.cells.now c.in-Some.pivot (sym c.largest.ensures.value ∙ c.in-Some.is) c.in-Some-largest.runner (sym c.largest-2.ensures.value ∙ c.in-Some-largest.is)
     (ap (λ x. eqb (a.size x) 0) (sym c.top.ensures) ∙ sym c.is_zero.ensures ∙ c.if-is_zero.false) in
     rw p.1 (t ∙ ap (turned a) c.in_err-round.ensures.0, c.in_err-round.ensures.1)

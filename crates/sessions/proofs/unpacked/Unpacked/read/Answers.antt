@@ -24,7 +24,7 @@ returns-in-Ok c =
       held = refl;
       asked = (
         a.0,
-        c.frame_of_lem.ensures ∙ ap (λ (l : Line). frame_kind l.frame) (sym a.1),
+        c.frame_of.ensures ∙ ap (λ (l : Line). frame_kind l.frame) (sym a.1),
         omega (arith, few, k),
         ap (λ (m : ℕ). take m words) (sym k) ∙ ap (take (count_of bytes)) c.in-Ok.ensures.after ∙ words_read (length old) known bytes old c.requires a.0,
       );

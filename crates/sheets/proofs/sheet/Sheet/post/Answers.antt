@@ -8,7 +8,7 @@ returns-in-Some g c =
     let a = g.K.Kind.arith in
     let m = model c.args.self.now in
     let ws = c.args.words.now in
-    let o : post_refusal_lem a m ws ≡ Some c.in-Some.fault = sym c.post_refusal_lem.ensures.value ∙ c.in-Some.is in
+    let o : post_refusal_lem a m ws ≡ Some c.in-Some.fault = sym c.post_refusal.ensures.value ∙ c.in-Some.is in
     let answer : Err c.in-Some.fault ≡ post_answer a m ws = search rules in
     let left : m ≡ post_left a m ws = search rules in
     let k = post_keeps a g.met.K.Kind.kept m c.args.self.now.shape.few ws (λ e. let z : ◌≡◌ {A = ℕ} 0 1 = cc in absurd (omega arith)) (Err c.in-Some.fault) m answer left in

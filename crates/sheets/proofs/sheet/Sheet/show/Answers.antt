@@ -7,5 +7,5 @@ use Rattle.sheets.proofs.sheet.Sheet.show.Goals as goal
 pub write_rows-requires : goal.write_rows-requires
 write_rows-requires g c =
     let shape = c.args.self.now.shape in
-    let s = showable (model c.args.self.now) (page_model c.args.page.now) (sym c.show_refusal_lem.ensures ∙ c.in_default.is) in
+    let s = showable (model c.args.self.now) (page_model c.args.page.now) (sym c.show_refusal.ensures ∙ c.in_default.is) in
     record { room = omega (arith, main_needed shape.unknowns shape.moves shape.few, s.cells); few = shape.small; idle = s.idle; page = s.room }
