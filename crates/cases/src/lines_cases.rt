@@ -52,7 +52,7 @@ fn a_line_is_written_at_the_end(rt: HostRuntime) {
     let third = write_line(&mut page, 0x84, &[]).is_ok();
     let end = page.end();
     assert!(rt; first && !second && third && end == 26);
-    assert!(rt; &bytes[0..26] == b"8302FFFFFFFD00000002\n8400\n" && bytes[26] == 0xAA);
+    assert!(rt; &bytes[0..26] == b"8302FFFFFFFD00000002\n8400\n".as_slice() && bytes[26] == 0xAA);
 }
 
 // Begins a line for two numbers, puts one, and gives the line up; whether all of that was done.
