@@ -28,7 +28,8 @@ pub fn first_no_digit(bytes: &[u8]) -> Option<usize>
     ensures { result ≡ find no_digit bytes.now }
 {
     for (i, b) in bytes.iter().enumerate() {
-        if value(*b) > 15 {
+        let stray = value(*b) > 15;
+        if stray {
             return Some(i);
         }
     }

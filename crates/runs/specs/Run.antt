@@ -5,9 +5,9 @@ use Rattle.lines.specs.Page.{Model as PageModel, model as page_model}
 use Rattle.lines.specs.declared.page.Page.{Page}
 use Rattle.sheets.specs.Clearing.{clear_answer, clear_left}
 use Rattle.sheets.specs.Picking.{pick_answer, pick_left}
-use Rattle.sheets.specs.Sheet.{Model, model_of, opened, post_answer, post_left}
+use Rattle.sheets.specs.Sheet.{Model, model_of, outline_of, opened, post_answer, post_left}
 use Rattle.sheets.specs.Showing.{show_answer, show_left}
-use Rattle.sheets.specs.declared.shape.Shape.{Shape}
+use Rattle.sheets.specs.declared.shape.Outline.{Outline}
 use Rattle.sheets.specs.declared.sheet.Sheet.{Sheet}
 use Rattle.runs.specs.declared.call.Answer.{Answer}
 use Rattle.runs.specs.Calls.{Called, posting, clearing, picking, showing, verdict_answer_lem, plain_answer_lem}
@@ -18,11 +18,11 @@ pub record State (C : Type 0) : Type 0 where
   pub plan : List ℤ
   pub page : PageModel
 
-abbrev pub state_of : {C : Type 0} → List C → Shape → List ℤ → Page → State C
-state_of cells shape plan page = record { sheet = model_of cells shape; plan = plan; page = page_model page }
+abbrev pub state_of : {C : Type 0} → List C → Outline → List ℤ → Page → State C
+state_of cells outline plan page = record { sheet = model_of cells outline; plan = plan; page = page_model page }
 
 abbrev pub state : {N C : Type 0} → Sheet N C → List ℤ → Page → State C
-state sheet plan page = state_of sheet.cells.now sheet.shape plan page
+state sheet plan page = state_of sheet.cells.now (outline_of sheet) plan page
 
 abbrev pub with_sheet : {C : Type 0} → State C → Model C → State C
 with_sheet s sheet = record { sheet = sheet; plan = s.plan; page = s.page }

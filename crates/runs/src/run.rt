@@ -10,7 +10,7 @@ ghost use Rattle.runs.specs.Promise.{Promise};
 use crate::call::{Answer, Call, Step, plain_answer, verdict_answer};
 use kinds::kind::Kind;
 use lines::page::Page;
-use sheets::shape::Shape;
+use sheets::shape::Outline;
 use sheets::sheet::Sheet;
 
 // Makes one call.
@@ -69,7 +69,7 @@ fn open_and_run<K: Kind>(
     steps: &mut [Step],
     plan: &mut [i32],
     page: &mut Page,
-) -> Shape
+) -> Outline
     ensures page_held { page.new.bytes.ghost_name ≡ page.old.bytes.ghost_name }
     ensures calls { calls_in steps.new ≡ calls_in steps.old }
     ensures answers { answers_in steps.new ≡ answers_to K.Kind.arith (begun K.Kind.arith unknowns list cells.old plan.old (page_model page.old)) (calls_in steps.old) }
@@ -78,11 +78,11 @@ fn open_and_run<K: Kind>(
 {
     let mut sheet = Sheet::<K>::open(cells, unknowns, list);
     make_steps(&mut sheet, steps, plan, page);
-    sheet.shape()
+    sheet.outline()
 }
 
 // Opens a sheet over the cells and makes the calls of the steps on it, one after the other; each step gets its answer.
-// The cells then hold the sheet, and its shape is answered.
+// The cells then hold the sheet, and its outline is answered.
 pub fn run<K: Kind>(
     cells: &mut [K::Cell],
     unknowns: i32,
@@ -90,7 +90,7 @@ pub fn run<K: Kind>(
     steps: &mut [Step],
     plan: &mut [i32],
     page: &mut Page,
-) -> Shape
+) -> Outline
     ensures page_held { page.new.bytes.ghost_name ≡ page.old.bytes.ghost_name }
     ensures calls { calls_in steps.new ≡ calls_in steps.old }
     ensures answers { answers_in steps.new ≡ answers_to K.Kind.arith (begun K.Kind.arith unknowns list cells.old plan.old (page_model page.old)) (calls_in steps.old) }

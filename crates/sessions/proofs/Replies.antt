@@ -48,8 +48,8 @@ small s = by s.state
   where
     by : (x : State) → Small (view_by x s.whole s.weekday)
     by OnNone = tt
-    by (OnWhole shape) = (shape.small, shape.few)
-    by (OnWeekday shape) = (shape.small, shape.few)
+    by (OnWhole o) = (o.shape.small, o.shape.few)
+    by (OnWeekday o) = (o.shape.small, o.shape.few)
 
 -- what a result of a kind is not
 not_ok : {X : Type 0} (fault : SheetFault) (x : X) → Err fault ≡ Ok x → ⊥

@@ -35,8 +35,8 @@ pub data View : Type 0 where
 
 abbrev pub view_by : State → List WholeCell → List WeekdayCell → View
 view_by OnNone w d = without_sheet w d
-view_by (OnWhole shape) w d = on_whole (model_of w shape) d
-view_by (OnWeekday shape) w d = on_weekday w (model_of d shape)
+view_by (OnWhole outline) w d = on_whole (model_of w outline) d
+view_by (OnWeekday outline) w d = on_weekday w (model_of d outline)
 
 abbrev pub view : Session → View
 view s = view_by s.state s.whole s.weekday

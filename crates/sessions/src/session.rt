@@ -15,7 +15,7 @@ use kinds::whole::{Whole, WholeCell};
 use lines::page::Page;
 use lines::reading::MOST_NUMBERS;
 use lines::writing::write_line;
-use sheets::shape::Shape;
+use sheets::shape::Outline;
 
 // As many cells as the largest sheet needs.
 pub const CELLS: usize = 1225;
@@ -35,8 +35,8 @@ const PICKED_PLAN: u8 = 0x82;
 #[derive(Clone, Copy)]
 pub enum State {
     NoSheet,
-    Whole(Shape),
-    Weekday(Shape),
+    Whole(Outline),
+    Weekday(Outline),
 }
 
 #[derive(Drop)]
@@ -68,12 +68,12 @@ impl Session {
         }
         match kind_with(words[0]) {
             Some(Chosen::Whole) => {
-                let shape = open_on::<Whole>(&mut self.whole, words[1], words[2])?;
-                self.state = State::Whole(shape);
+                let outline = open_on::<Whole>(&mut self.whole, words[1], words[2])?;
+                self.state = State::Whole(outline);
             }
             Some(Chosen::Weekday) => {
-                let shape = open_on::<Weekday>(&mut self.weekday, words[1], words[2])?;
-                self.state = State::Weekday(shape);
+                let outline = open_on::<Weekday>(&mut self.weekday, words[1], words[2])?;
+                self.state = State::Weekday(outline);
             }
             None => return Err(SheetFault::Line(LineFault::Number(NumberFault::Modulus, 4))),
         }
@@ -91,16 +91,16 @@ impl Session {
         match (self.state, frame) {
             (_, Frame::Open) => self.open(words),
             (State::NoSheet, Frame::Ask(_)) => Err(SheetFault::NoSheet),
-            (State::Whole(shape), Frame::Ask(request)) => {
-                let mut shape = shape;
-                let answer = ask::<Whole>(&mut self.whole, &mut shape, request, words, plan);
-                self.state = State::Whole(shape);
+            (State::Whole(outline), Frame::Ask(request)) => {
+                let mut outline = outline;
+                let answer = ask::<Whole>(&mut self.whole, &mut outline, request, words, plan);
+                self.state = State::Whole(outline);
                 answer
             }
-            (State::Weekday(shape), Frame::Ask(request)) => {
-                let mut shape = shape;
-                let answer = ask::<Weekday>(&mut self.weekday, &mut shape, request, words, plan);
-                self.state = State::Weekday(shape);
+            (State::Weekday(outline), Frame::Ask(request)) => {
+                let mut outline = outline;
+                let answer = ask::<Weekday>(&mut self.weekday, &mut outline, request, words, plan);
+                self.state = State::Weekday(outline);
                 answer
             }
         }
@@ -132,8 +132,8 @@ impl Session {
     {
         match self.state {
             State::NoSheet => 0,
-            State::Whole(shape) => shape.unknowns(),
-            State::Weekday(shape) => shape.unknowns(),
+            State::Whole(outline) => outline.unknowns(),
+            State::Weekday(outline) => outline.unknowns(),
         }
     }
 
@@ -145,8 +145,8 @@ impl Session {
     {
         match self.state {
             State::NoSheet => {}
-            State::Whole(shape) => show_on::<Whole>(&mut self.whole, shape, page),
-            State::Weekday(shape) => show_on::<Weekday>(&mut self.weekday, shape, page),
+            State::Whole(outline) => show_on::<Whole>(&mut self.whole, outline, page),
+            State::Weekday(outline) => show_on::<Weekday>(&mut self.weekday, outline, page),
         }
     }
 

@@ -10,7 +10,7 @@ use crate::frame::{Done, Request, placed_in_line};
 use faults::{LineFault, SheetFault};
 use kinds::kind::Kind;
 use lines::page::Page;
-use sheets::shape::Shape;
+use sheets::shape::Outline;
 use sheets::sheet::{Sheet, check};
 
 // Opens a new sheet, unless the check refuses.
@@ -18,29 +18,29 @@ pub(crate) fn open_on<K: Kind>(
     cells: &mut [K::Cell],
     unknowns: i32,
     list: i32,
-) -> Result<Shape, SheetFault>
-    ensures { MatchResult result (λ shape. (checked unknowns list (length cells.old) ≡ Ok tt) × (model_of cells.new shape ≡ opened K.Kind.arith unknowns list cells.old)) (λ fault. (cells.new ≡ cells.old) × (checked_in_line (checked unknowns list (length cells.old)) ≡ Err fault)) }
+) -> Result<Outline, SheetFault>
+    ensures { MatchResult result (λ outline. (checked unknowns list (length cells.old) ≡ Ok tt) × (model_of cells.new outline ≡ opened K.Kind.arith unknowns list cells.old)) (λ fault. (cells.new ≡ cells.old) × (checked_in_line (checked unknowns list (length cells.old)) ≡ Err fault)) }
 {
     if let Err(fault) = check::<K>(unknowns, list, cells) {
         return Err(placed_in_line(fault));
     }
     let sheet = Sheet::<K>::open(cells, unknowns, list);
-    Ok(sheet.shape())
+    Ok(sheet.outline())
 }
 
 // Posts the numbers of an equation line.
 fn post_on<K: Kind>(
     cells: &mut [K::Cell],
-    shape: &mut Shape,
+    outline: &mut Outline,
     words: &[i32],
 ) -> Result<Done, SheetFault>
     requires { length words.now ≤ 25 }
-    ensures answer { result ≡ posted_done (post_answer K.Kind.arith (model_of cells.old shape.old) words.now) }
-    ensures left { model_of cells.new shape.new ≡ post_left K.Kind.arith (model_of cells.old shape.old) words.now }
+    ensures answer { result ≡ posted_done (post_answer K.Kind.arith (model_of cells.old outline.old) words.now) }
+    ensures left { model_of cells.new outline.new ≡ post_left K.Kind.arith (model_of cells.old outline.old) words.now }
 {
-    let mut sheet = Sheet::<K>::resume(cells, *shape);
+    let mut sheet = Sheet::<K>::resume(cells, *outline);
     let answer = sheet.post(words);
-    *shape = sheet.shape();
+    *outline = sheet.outline();
     match answer {
         Ok(verdict) => Ok(Done::Posted(verdict)),
         Err(fault) => Err(placed_in_line(fault)),
@@ -63,35 +63,35 @@ fn bare_refusal<K: Kind>(sheet: &Sheet<K>, words: &[i32]) -> Option<SheetFault>
 // Clears the sheet, as a line without numbers asks.
 fn clear_on<K: Kind>(
     cells: &mut [K::Cell],
-    shape: &mut Shape,
+    outline: &mut Outline,
     words: &[i32],
 ) -> Result<Done, SheetFault>
-    ensures answer { result ≡ clear_done (model_of cells.old shape.old) words.now }
-    ensures left { model_of cells.new shape.new ≡ clear_in_line K.Kind.arith (model_of cells.old shape.old) words.now }
+    ensures answer { result ≡ clear_done (model_of cells.old outline.old) words.now }
+    ensures left { model_of cells.new outline.new ≡ clear_in_line K.Kind.arith (model_of cells.old outline.old) words.now }
 {
-    let mut sheet = Sheet::<K>::resume(cells, *shape);
+    let mut sheet = Sheet::<K>::resume(cells, *outline);
     if let Some(fault) = bare_refusal(&sheet, words) {
         return Err(fault);
     }
     let _ = sheet.clear();
-    *shape = sheet.shape();
+    *outline = sheet.outline();
     Ok(Done::Cleared)
 }
 
 // Picks the plan of a choice, into a word for each unknown.
 fn pick_into<K: Kind>(
     cells: &mut [K::Cell],
-    shape: Shape,
+    outline: Outline,
     choice: &[i32],
     plan: &mut [i32],
 ) -> Result<Done, SheetFault>
     requires few { length choice.now ≤ 25 }
-    requires exact { length plan.old ≡ shape.unknowns }
-    ensures answer { result ≡ pick_done K.Kind.arith (model_of cells.old shape) choice.now }
+    requires exact { length plan.old ≡ outline.shape.unknowns }
+    ensures answer { result ≡ pick_done K.Kind.arith (model_of cells.old outline) choice.now }
     ensures kept { cells.new ≡ cells.old }
-    ensures plan { plan.new ≡ pick_left K.Kind.arith (model_of cells.old shape) choice.now plan.old }
+    ensures plan { plan.new ≡ pick_left K.Kind.arith (model_of cells.old outline) choice.now plan.old }
 {
-    let sheet = Sheet::<K>::resume(cells, shape);
+    let sheet = Sheet::<K>::resume(cells, outline);
     match sheet.pick(choice, plan) {
         Ok(()) => Ok(Done::Picked),
         Err(fault) => Err(placed_in_line(fault)),
@@ -101,30 +101,30 @@ fn pick_into<K: Kind>(
 // Picks the plan of a choice, into the first words of `plan`.
 fn pick_on<K: Kind>(
     cells: &mut [K::Cell],
-    shape: Shape,
+    outline: Outline,
     choice: &[i32],
     plan: &mut [i32],
 ) -> Result<Done, SheetFault>
     requires few { length choice.now ≤ 25 }
     requires room { 24 ≤ length plan.old }
-    ensures answer { result ≡ pick_done K.Kind.arith (model_of cells.old shape) choice.now }
+    ensures answer { result ≡ pick_done K.Kind.arith (model_of cells.old outline) choice.now }
     ensures kept { cells.new ≡ cells.old }
-    ensures plan { plan.new ≡ plan_left K.Kind.arith (model_of cells.old shape) choice.now plan.old }
+    ensures plan { plan.new ≡ plan_left K.Kind.arith (model_of cells.old outline) choice.now plan.old }
 {
-    let n = shape.unknowns();
-    pick_into::<K>(cells, shape, choice, &mut plan[0..n])
+    let n = outline.unknowns();
+    pick_into::<K>(cells, outline, choice, &mut plan[0..n])
 }
 
 // Whether the sheet can be shown, as a line without numbers asks.
 fn show_check<K: Kind>(
     cells: &mut [K::Cell],
-    shape: Shape,
+    outline: Outline,
     words: &[i32],
 ) -> Result<Done, SheetFault>
-    ensures answer { result ≡ show_check_of (model_of cells.old shape) words.now }
+    ensures answer { result ≡ show_check_of (model_of cells.old outline) words.now }
     ensures kept { cells.new ≡ cells.old }
 {
-    let sheet = Sheet::<K>::resume(cells, shape);
+    let sheet = Sheet::<K>::resume(cells, outline);
     match bare_refusal(&sheet, words) {
         None => Ok(Done::Shown),
         Some(fault) => Err(fault),
@@ -135,31 +135,31 @@ fn show_check<K: Kind>(
 // only checked: its lines are written behind the answer.
 pub(crate) fn ask<K: Kind>(
     cells: &mut [K::Cell],
-    shape: &mut Shape,
+    outline: &mut Outline,
     request: Request,
     words: &[i32],
     plan: &mut [i32],
 ) -> Result<Done, SheetFault>
     requires few { length words.now ≤ 25 }
     requires room { 24 ≤ length plan.old }
-    ensures answer { result ≡ ask_answer K.Kind.arith (model_of cells.old shape.old) request words.now }
-    ensures left { model_of cells.new shape.new ≡ ask_left K.Kind.arith (model_of cells.old shape.old) request words.now }
-    ensures plan { plan.new ≡ ask_plan K.Kind.arith (model_of cells.old shape.old) request words.now plan.old }
+    ensures answer { result ≡ ask_answer K.Kind.arith (model_of cells.old outline.old) request words.now }
+    ensures left { model_of cells.new outline.new ≡ ask_left K.Kind.arith (model_of cells.old outline.old) request words.now }
+    ensures plan { plan.new ≡ ask_plan K.Kind.arith (model_of cells.old outline.old) request words.now plan.old }
 {
     match request {
-        Request::Equation => post_on::<K>(cells, shape, words),
-        Request::Clear => clear_on::<K>(cells, shape, words),
-        Request::Pick => pick_on::<K>(cells, *shape, words, plan),
-        Request::Show => show_check::<K>(cells, *shape, words),
+        Request::Equation => post_on::<K>(cells, outline, words),
+        Request::Clear => clear_on::<K>(cells, outline, words),
+        Request::Pick => pick_on::<K>(cells, *outline, words, plan),
+        Request::Show => show_check::<K>(cells, *outline, words),
     }
 }
 
 // Shows the sheet on a page; where the page cannot take it, the page is kept.
-pub(crate) fn show_on<K: Kind>(cells: &mut [K::Cell], shape: Shape, page: &mut Page)
+pub(crate) fn show_on<K: Kind>(cells: &mut [K::Cell], outline: Outline, page: &mut Page)
     ensures held { page.new.bytes.ghost_name ≡ page.old.bytes.ghost_name }
     ensures kept { cells.new ≡ cells.old }
-    ensures page { page_model page.new ≡ show_left K.Kind.arith (model_of cells.old shape) (page_model page.old) }
+    ensures page { page_model page.new ≡ show_left K.Kind.arith (model_of cells.old outline) (page_model page.old) }
 {
-    let sheet = Sheet::<K>::resume(cells, shape);
+    let sheet = Sheet::<K>::resume(cells, outline);
     let _ = sheet.show(page);
 }

@@ -7,7 +7,7 @@ use Rattle.kinds.specs.Kind.{Arithmetic}
 use Rattle.lines.specs.Hex.{find}
 use Rattle.plans.specs.Posting.{Outcome, posted}
 use Rattle.plans.specs.Sheet.{new_sheet}
-use Rattle.sheets.specs.declared.shape.Shape.{Shape}
+use Rattle.sheets.specs.declared.shape.Outline.{Outline}
 use Rattle.sheets.specs.declared.sheet.Sheet.{Sheet}
 use Rattle.sheets.specs.declared.posting.Verdict.{Verdict}
 use Rattle.sheets.specs.declared.posting.Verdict.TheVariants.{Taken, Implied}
@@ -22,12 +22,16 @@ pub record Model (C : Type 0) : Type 0 where
   -- names the list of unknowns
   pub list : ℕ
 
--- the sheet that these cells hold
-abbrev pub model_of : {C : Type 0} → List C → Shape → Model C
-model_of cells shape = record { cells = cells; unknowns = shape.unknowns; moves = shape.moves; list = shape.list }
-
 abbrev pub model : {N C : Type 0} → Sheet N C → Model C
-model s = model_of s.cells.now s.shape
+model s = record { cells = s.cells.now; unknowns = s.shape.unknowns; moves = s.shape.moves; list = s.list }
+
+-- what a sheet is besides its cells
+abbrev pub outline_of : {N C : Type 0} → Sheet N C → Outline
+outline_of s = record { shape = s.shape; list = s.list }
+
+-- the sheet that these cells hold
+abbrev pub model_of : {C : Type 0} → List C → Outline → Model C
+model_of cells o = record { cells = cells; unknowns = o.shape.unknowns; moves = o.shape.moves; list = o.list }
 
 -- whether a number is low to high
 abbrev pub in_range : ℕ → ℕ → ℤ → Bool

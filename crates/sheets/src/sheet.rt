@@ -5,7 +5,7 @@ ghost use Rattle.std.specs.List.{AllByRecursion as All};
 ghost use Rattle.sheets.specs.Clearing.{clear_answer, clear_left};
 ghost use Rattle.sheets.specs.Law.{StandsFor, Sound, SpareZero, RefusalsExact, PostLaw, ClearLaw, PickLaw};
 ghost use Rattle.sheets.specs.Picking.{pick_refusal_lem as pick_refusal_of, pick_answer, pick_left};
-ghost use Rattle.sheets.specs.Sheet.{model, model_of, asked as asked_of, checked, opened, stands as StandsOf, post_refusal_lem as post_refusal_of, post_answer, post_left};
+ghost use Rattle.sheets.specs.Sheet.{model, model_of, outline_of, asked as asked_of, checked, opened, stands as stands_of, post_refusal_lem as post_refusal_of, post_answer, post_left};
 ghost use Rattle.lines.specs.Page.{model as page_model};
 ghost use Rattle.sheets.specs.Showing.{show_refusal_lem as show_refusal_of, show_answer, show_left};
 
@@ -13,7 +13,7 @@ use crate::cells::needed_cells;
 use crate::opening::lay_new;
 use crate::picking::plan_words;
 use crate::posting::{Verdict, post_numbers};
-use crate::shape::Shape;
+use crate::shape::{Outline, Shape};
 use crate::showing::write_rows;
 use crate::words::{first_refused, word_number};
 use faults::{NumberFault, SheetFault};
@@ -25,6 +25,8 @@ pub struct Sheet<'a, K: Kind> {
     // The fixed plan, the moves in order, and the spare cells; there may be more behind them.
     cells: &'a mut [K::Cell],
     shape: Shape,
+    // Names the list of unknowns that the sheet's equations are about.
+    list: u16,
 }
 
 // The number of unknowns and the list number that an opening asks for.
@@ -69,8 +71,8 @@ impl<'a, K: Kind> Sheet<'a, K> {
                     shape: Shape {
                         unknowns: n,
                         moves: n,
-                        list,
                     },
+                    list,
                 }
             }
             Err(_) => Sheet {
@@ -78,33 +80,40 @@ impl<'a, K: Kind> Sheet<'a, K> {
                 shape: Shape {
                     unknowns: 0,
                     moves: 0,
-                    list: 0,
                 },
+                list: 0,
             },
         }
     }
 
     // Takes up again a sheet that was left in its cells.
-    pub fn resume(cells: &'a mut [K::Cell], shape: Shape) -> Sheet<'a, K>
+    pub fn resume(cells: &'a mut [K::Cell], outline: Outline) -> Sheet<'a, K>
         ensures held { result.cells.ghost_name ≡ cells.entry.ghost_name }
-        ensures model { model result ≡ model_of cells.old shape }
+        ensures model { model result ≡ model_of cells.old outline }
     {
-        Sheet { cells, shape }
+        Sheet {
+            cells,
+            shape: outline.shape,
+            list: outline.list,
+        }
     }
 }
 
 impl<K: Kind> Sheet<'_, K> {
     // What the sheet is besides its cells.
-    pub fn shape(&self) -> Shape
-        ensures { result ≡ self.now.shape }
+    pub fn outline(&self) -> Outline
+        ensures { result ≡ outline_of self.now }
     {
         let shape = self.shape;
-        shape
+        Outline {
+            shape,
+            list: self.list,
+        }
     }
 
     // Whether the sheet has unknowns, and the cells that it needs.
     pub fn stands(&self) -> bool
-        ensures { result ≡ StandsOf (model self.now) }
+        ensures { result ≡ stands_of (model self.now) }
     {
         let n = self.shape.unknowns;
         n != 0 && self.cells.len() >= needed_cells(n)
@@ -143,14 +152,12 @@ impl<K: Kind> Sheet<'_, K> {
         }
         let n = self.shape.unknowns;
         let moves = self.shape.moves;
-        let list = self.shape.list;
         let right = word_number::<K>(words, n);
         let answer = post_numbers::<K>(&words[..n], right, self.cells, moves);
         if let Ok(Verdict::Taken) = answer {
             self.shape = Shape {
                 unknowns: n,
                 moves: moves - 1,
-                list,
             };
         }
         answer
@@ -169,14 +176,9 @@ impl<K: Kind> Sheet<'_, K> {
             return Err(SheetFault::NoSheet);
         }
         let n = self.shape.unknowns;
-        let list = self.shape.list;
         lay_new::<K>(self.cells, n);
         let moves = n;
-        self.shape = Shape {
-            unknowns: n,
-            moves,
-            list,
-        };
+        self.shape = Shape { unknowns: n, moves };
         Ok(())
     }
 

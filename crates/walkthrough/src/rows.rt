@@ -3,7 +3,7 @@ ghost use Rattle.std.specs.Prelude.{◌≡◌};
 ghost use Rattle.sheets.specs.Cells.{number};
 
 use kinds::kind::Kind;
-use sheets::shape::Shape;
+use sheets::shape::Outline;
 use std::io;
 use std::io::Write;
 
@@ -40,12 +40,12 @@ fn before(i: usize) -> &'static str {
 }
 
 // The sheet that lies in the cells.
-pub fn sheet<K: Kind, W: Write>(out: &mut W, shape: Shape, cells: &[K::Cell]) -> io::Result<()> {
-    let unknowns = shape.unknowns();
+pub fn sheet<K: Kind, W: Write>(out: &mut W, outline: Outline, cells: &[K::Cell]) -> io::Result<()> {
+    let unknowns = outline.unknowns();
     if unknowns == 0 {
         return writeln!(out, "    sheet: no unknowns");
     }
-    let moves = shape.moves();
+    let moves = outline.moves();
     let rows = moves.saturating_add(1);
     write!(out, "    sheet: ")?;
     for (i, cells) in cells.chunks_exact(unknowns).take(rows).enumerate() {

@@ -38,8 +38,8 @@ pub fn walk<K: Kind, W: Write>(
         out,
         "{kind}, {unknowns} unknowns, list {list}; {cell_count} cells, {word_count} plan words, a page of {PAGE} bytes"
     )?;
-    let shape = run::<K>(cells, unknowns, list, steps, plan, &mut page);
+    let outline = run::<K>(cells, unknowns, list, steps, plan, &mut page);
     report::steps(out, steps)?;
-    rows::sheet::<K, W>(out, shape, cells)?;
+    rows::sheet::<K, W>(out, outline, cells)?;
     report::plan(out, steps, plan)
 }

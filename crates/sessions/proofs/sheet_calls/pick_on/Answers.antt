@@ -6,9 +6,9 @@ use Rattle.sessions.proofs.sheet_calls.pick_on.Goals as goal
 pub returns : goal.returns
 returns g c =
     let a = g.K.Kind.arith in
-    let m = model_of c.args.cells.now c.args.shape in
+    let m = model_of c.args.cells.now c.args.outline in
     let old = c.args.plan.now in
-    let e : c.unknowns-n.result - 0 ≡ c.args.shape.unknowns = omega (arith, c.unknowns-n.ensures) in
+    let e : c.unknowns-n.result - 0 ≡ c.args.outline.shape.unknowns = omega (arith, c.unknowns-n.ensures) in
     record {
       answer = c.pick_into.ensures.answer;
       kept = c.pick_into.ensures.kept;

@@ -11,7 +11,7 @@ returns g c =
     let s = c.args.self.now.shape in
     let m = model c.args.self.now in
     let r : Result Unit SheetFault = Ok tt in
-    let after : Model g.row.K-Cell.Denot = record { cells = c.lay_new.new.cells; unknowns = s.unknowns; moves = s.unknowns; list = s.list } in
+    let after : Model g.row.K-Cell.Denot = record { cells = c.lay_new.new.cells; unknowns = s.unknowns; moves = s.unknowns; list = c.args.self.now.list } in
     let answer : r ≡ clear_answer m = search rules in
     let left : after ≡ clear_left a m = search rules in
     let k = clear_keeps a g.met.K.Kind.kept m r after answer left in

@@ -21,7 +21,7 @@ returns-in-Ok-Taken g c =
     let m = model c.args.self.now in
     let ws = c.args.words.now in
     let r = c.post_numbers-answer.result in
-    let after : Model g.row.K-Cell.Denot = record { cells = c.post_numbers-answer.new.cells; unknowns = s.unknowns; moves = s.moves - 1; list = s.list } in
+    let after : Model g.row.K-Cell.Denot = record { cells = c.post_numbers-answer.new.cells; unknowns = s.unknowns; moves = s.moves - 1; list = c.args.self.now.list } in
     let answer : r ≡ post_answer a m ws = search rules in
     let left : after ≡ post_left a m ws = search rules in
     let k = post_keeps a g.met.K.Kind.kept m s.few ws (λ _. c.in_default.ensures.fit) r after answer left in
@@ -34,7 +34,7 @@ returns-in_default g c =
     let m = model c.args.self.now in
     let ws = c.args.words.now in
     let r = c.post_numbers-answer.result in
-    let after : Model g.row.K-Cell.Denot = record { cells = c.post_numbers-answer.new.cells; unknowns = s.unknowns; moves = s.moves; list = s.list } in
+    let after : Model g.row.K-Cell.Denot = record { cells = c.post_numbers-answer.new.cells; unknowns = s.unknowns; moves = s.moves; list = c.args.self.now.list } in
     let answer : r ≡ post_answer a m ws = search rules in
     let left : after ≡ post_left a m ws = search rules in
     let k = post_keeps a g.met.K.Kind.kept m s.few ws (λ _. c.in_default.ensures.fit) r after answer left in
@@ -47,7 +47,7 @@ returns-in_default-2 g c =
     let m = model c.args.self.now in
     let ws = c.args.words.now in
     let r = c.post_numbers-answer.result in
-    let after : Model g.row.K-Cell.Denot = record { cells = c.post_numbers-answer.new.cells; unknowns = s.unknowns; moves = s.moves; list = s.list } in
+    let after : Model g.row.K-Cell.Denot = record { cells = c.post_numbers-answer.new.cells; unknowns = s.unknowns; moves = s.moves; list = c.args.self.now.list } in
     let answer : r ≡ post_answer a m ws = search rules in
     let left : after ≡ post_left a m ws = search rules in
     let k = post_keeps a g.met.K.Kind.kept m s.few ws (λ _. c.in_default.ensures.fit) r after answer left in
