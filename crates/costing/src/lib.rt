@@ -123,9 +123,9 @@ fn answer_of(verdict: Result<bool, Refusal>) -> i32
     }
 }
 
-// The same for C: 1 where the plan meets the equation, 0 where it does not, otherwise the refusal's number.
-#[unsafe(no_mangle)]
-pub extern "C" fn costing_meets(equation: &[u8], plan: &[u8]) -> i32
+// The same as one number: 1 where the plan meets the equation, 0 where it does not, otherwise the refusal's. The crate
+// costing_c exports it to C.
+pub fn costing_meets(equation: &[u8], plan: &[u8]) -> i32
     ensures value { result ≡ answer (verdict equation.now plan.now) }
     ensures means { Means result equation.now plan.now }
 {

@@ -8,7 +8,7 @@ use Rattle.faults.specs.declared.LineFault.{LineFault}
 use Rattle.faults.specs.declared.LineFault.TheVariants.{FewWords}
 use Rattle.lines.specs.declared.reading.Line.{Line}
 use Rattle.lines.specs.Hex.{Hex, hex_value, no_digit, find, text, word_text}
-use Rattle.lines.specs.Line.{line_text, frame_of_lem, count_of, words_of, numbers, is_lowest, has, first, at_place, length_refusal, digit_refusal, size_refusal, frame_refusal, number_refusal, refusal, read_refusal, read_of, answered, line_of, words_left}
+use Rattle.lines.specs.Line.{line_text, frame_of, count_of, words_of, numbers, is_lowest, has, first, at_place, length_refusal, digit_refusal, size_refusal, frame_refusal, number_refusal, refusal, read_refusal, read_of, answered, line_of, words_left}
 use Rattle.lines.proofs.Digits.{text_number, word_text_word}
 use Rattle.lines.proofs.Finding.{find_none}
 use Rattle.lines.proofs.Words.{length_words_of}
@@ -37,7 +37,7 @@ pub record Accepted (known bytes : List ℕ) : Type 0 where
   pub short : length bytes ≤ 204
   pub hex : Hex bytes
   pub sized : length bytes ≡ 4 + 8 * count_of bytes
-  pub known_frame : has (frame_of_lem bytes) known ≡ true
+  pub known_frame : has (frame_of bytes) known ≡ true
   pub none_lowest : find is_lowest (numbers bytes) ≡ None
 
 pub accepted : (known bytes : List ℕ) → refusal known bytes ≡ None → Accepted known bytes
@@ -51,7 +51,7 @@ accepted known bytes e =
       short = ltb-false 204 (length bytes) l.1;
       hex = hex_from_find bytes (at_place_none _ (find no_digit bytes) b.0);
       sized = eqb-true _ _ (passed (eqb (length bytes) (4 + 8 * count_of bytes)) _ c.0);
-      known_frame = passed (has (frame_of_lem bytes) known) _ d.0;
+      known_frame = passed (has (frame_of bytes) known) _ d.0;
       none_lowest = at_place_none _ (find is_lowest (numbers bytes)) d.1;
     }
 
@@ -90,7 +90,7 @@ joined_words (suc n) ds l h =
     let b = joined_words n (drop 8 ds) (length-drop 8 ds ∙ omega arith) (All-drop (λ c. hex_value c < 16) 8 ds h) in
     (λ j. a j ++ b j) ∙ take-append-drop 8 ds
 
-pub written_again : (bytes : List ℕ) → Hex bytes → length bytes ≡ 4 + 8 * count_of bytes → line_text (frame_of_lem bytes) (numbers bytes) ≡ bytes
+pub written_again : (bytes : List ℕ) → Hex bytes → length bytes ≡ 4 + 8 * count_of bytes → line_text (frame_of bytes) (numbers bytes) ≡ bytes
 written_again bytes h l =
     let rest = drop 2 bytes in
     let hr = All-drop (λ c. hex_value c < 16) 2 bytes h in

@@ -2,7 +2,7 @@
 use Rattle.std.proofs.Common.{◌≡◌, ℕ, ◌+◌, ◌<◌, ◌≤◌, Bool, true, false, cond, List, [], ◌∷◌, length, get_or, drop, Some, None, refl, ◌∙◌, arith}
 use Rattle.std.proofs.lemmas.List.{at_drop_more, at_drop_all}
 use Rattle.std.proofs.lemmas.Bool.{cond-true, cond-false}
-use Rattle.std.specs.List.{AllByRecursion as All}
+use Rattle.std.specs.List.{AllByRecursion}
 use Rattle.lines.specs.Hex.{find_from}
 
 module _ {A : Type 0} (test : A → Bool) (xs : List A) (i : ℕ) where
@@ -24,14 +24,14 @@ module _ {A : Type 0} (test : A → Bool) where
       by true rest e = let s : i ≡ k = cc in omega arith
       by false rest e = let s = rest e in omega arith
 
-  pub find_none : (i : ℕ) (xs : List A) → find_from test i xs ≡ None → All (λ x. test x ≡ false) xs
+  pub find_none : (i : ℕ) (xs : List A) → find_from test i xs ≡ None → AllByRecursion (λ x. test x ≡ false) xs
   find_none i [] e = tt
   find_none i (x ∷ xs) e = by (test x) refl (find_none (i + 1) xs) e
     where
-      by : (t : Bool) → test x ≡ t → (find_from test (i + 1) xs ≡ None → All (λ x. test x ≡ false) xs) → cond t (Some i) (find_from test (i + 1) xs) ≡ None → All (λ x. test x ≡ false) (x ∷ xs)
+      by : (t : Bool) → test x ≡ t → (find_from test (i + 1) xs ≡ None → AllByRecursion (λ x. test x ≡ false) xs) → cond t (Some i) (find_from test (i + 1) xs) ≡ None → AllByRecursion (λ x. test x ≡ false) (x ∷ xs)
       by true p rest e = let z : ◌≡◌ {A = ℕ} 0 1 = cc in absurd (omega arith)
       by false p rest e = (p, rest e)
 
-  pub none_find : (i : ℕ) (xs : List A) → All (λ x. test x ≡ false) xs → find_from test i xs ≡ None
+  pub none_find : (i : ℕ) (xs : List A) → AllByRecursion (λ x. test x ≡ false) xs → find_from test i xs ≡ None
   none_find i [] h = refl
   none_find i (x ∷ xs) h = cond-false (test x) (Some i) (find_from test (i + 1) xs) h.0 ∙ none_find (i + 1) xs h.1

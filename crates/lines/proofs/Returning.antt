@@ -1,17 +1,17 @@
 -- A line that was written reads back.
 use Rattle.std.proofs.Common.{◌≡◌, ℕ, ◌+◌, ◌*◌, ◌<◌, ◌≤◌, true, false, ◌||◌, eqb, ltb, List, [], ◌∷◌, ◌++◌, length, ℤ, Some, None, refl, ap, ◌∙◌, arith, w32, SFits, of_z}
-use Rattle.std.specs.List.{flat_map, AllByRecursion as All}
+use Rattle.std.specs.List.{flat_map, AllByRecursion}
 use Rattle.std.proofs.ByRecursion.{All-append, All-weaker}
 use Rattle.std.proofs.lemmas.Bool.{le-ltb, eq-eqb, or_from, cond-true, cond-false}
 use Rattle.faults.specs.declared.LineFault.TheVariants.{Length, NoDigit, Size, Frame, Number}
 use Rattle.faults.specs.declared.NumberFault.TheVariants.{Lowest}
 use Rattle.lines.specs.Hex.{Hex, hex_value, no_digit, find, text, word_text}
-use Rattle.lines.specs.Line.{line_text, frame_of_lem, count_of, words_of, numbers, is_lowest, has, first, at_place, length_refusal, digit_refusal, size_refusal, frame_refusal, number_refusal, refusal, ReadsBack}
+use Rattle.lines.specs.Line.{line_text, frame_of, count_of, words_of, numbers, is_lowest, has, first, at_place, length_refusal, digit_refusal, size_refusal, frame_refusal, number_refusal, refusal, ReadsBack}
 use Rattle.lines.proofs.Digits.{hex_text, number_text, word_word_text}
 use Rattle.lines.proofs.Filling.{length_joined}
 use Rattle.lines.proofs.Finding.{none_find}
 
-words_joined : (ws : List ℤ) → All (SFits w32) ws → words_of (length ws) (flat_map word_text ws) ≡ ws
+words_joined : (ws : List ℤ) → AllByRecursion (SFits w32) ws → words_of (length ws) (flat_map word_text ws) ≡ ws
 words_joined [] f = refl
 words_joined (w ∷ ws) f = let a = word_word_text w f.0 in let b = words_joined ws f.1 in λ j. a j ∷ b j
 
@@ -19,11 +19,11 @@ hex_joined : (ws : List ℤ) → Hex (flat_map word_text ws)
 hex_joined [] = tt
 hex_joined (w ∷ ws) = All-append (λ c. hex_value c < 16) (word_text w) (flat_map word_text ws) (hex_text 8 (of_z w32 w)) (hex_joined ws)
 
-module _ (frame : ℕ) (ws : List ℤ) (small : frame < 256) (few : length ws ≤ 25) (fits : All (SFits w32) ws) where
+module _ (frame : ℕ) (ws : List ℤ) (small : frame < 256) (few : length ws ≤ 25) (fits : AllByRecursion (SFits w32) ws) where
   length_line : length (line_text frame ws) ≡ 4 + 8 * length ws
   length_line = let e = length_joined ws in omega arith
 
-  frame_back : frame_of_lem (line_text frame ws) ≡ frame
+  frame_back : frame_of (line_text frame ws) ≡ frame
   frame_back = number_text 2 frame small
 
   count_back : count_of (line_text frame ws) ≡ length ws
@@ -44,7 +44,7 @@ module _ (frame : ℕ) (ws : List ℤ) (small : frame < 256) (few : length ws �
       let d : find no_digit T ≡ None = none_find no_digit 0 T (All-weaker (λ c. hex_value c < 16) (λ c. no_digit c ≡ false) (λ c h. le-ltb 15 (hex_value c) (omega arith)) T hex_line) in
       let e2 : digit_refusal T ≡ None = ap (at_place NoDigit) d in
       let e3 : size_refusal T ≡ None = cond-true (eqb (length T) (4 + 8 * count_of T)) None (Some Size) (let n = length_line in let m = count_back in eq-eqb (length T) (4 + 8 * count_of T) (omega arith)) in
-      let e4 : frame_refusal known T ≡ None = cond-true (has (frame_of_lem T) known) None (Some Frame) (ap (λ (f : ℕ). has f known) frame_back ∙ k) in
+      let e4 : frame_refusal known T ≡ None = cond-true (has (frame_of T) known) None (Some Frame) (ap (λ (f : ℕ). has f known) frame_back ∙ k) in
       let e5 : number_refusal T ≡ None = ap (at_place (λ k. Number Lowest (4 + 8 * k))) (ap (find is_lowest) numbers_back ∙ l) in
       λ j. first (e1 j) (first (e2 j) (first (e3 j) (first (e4 j) (e5 j))))
 

@@ -3,7 +3,7 @@ use Rattle.std.specs.Prelude.{ℕ, zero, suc, ◌+◌, ◌-◌, ◌/◌, ◌%◌
 use Rattle.std.proofs.Common.{to_z, of_z}
 use Rattle.std.specs.Int.{w32}
 use Rattle.std.specs.Int.Digits.{number_from_digits}
-use Rattle.std.specs.List.{AllByRecursion as All}
+use Rattle.std.specs.List.{AllByRecursion}
 
 -- the value of a character's code: 0 to 9 and A to F, and 16 for any other
 abbrev pub hex_value : ℕ → ℕ
@@ -21,7 +21,7 @@ hex_code v = cond (nat_lt v 10) (48 + v) (55 + v)
 
 -- each byte is a digit
 abbrev pub Hex : List ℕ → Type 0
-Hex bytes = All (λ c. hex_value c < 16) bytes
+Hex bytes = AllByRecursion (λ c. hex_value c < 16) bytes
 
 -- the place, counted from i, of the first element that passes the test
 abbrev pub find_from : {A : Type 0} → (A → Bool) → ℕ → List A → Option ℕ

@@ -12,8 +12,8 @@ abbrev pub line_text : ℕ → List ℤ → List ℕ
 line_text frame ws = text 2 frame ++ (text 2 (length ws) ++ flat_map word_text ws)
 
 -- the frame, the count and the numbers that a line has by its digits
-abbrev pub frame_of_lem : List ℕ → ℕ
-frame_of_lem bytes = number_of (take 2 bytes)
+abbrev pub frame_of : List ℕ → ℕ
+frame_of bytes = number_of (take 2 bytes)
 
 abbrev pub count_of : List ℕ → ℕ
 count_of bytes = number_of (take 2 (drop 2 bytes))
@@ -54,7 +54,7 @@ abbrev pub size_refusal : List ℕ → Option LineFault
 size_refusal bytes = cond (length bytes == 4 + 8 * count_of bytes) None (Some Size)
 
 abbrev pub frame_refusal : List ℕ → List ℕ → Option LineFault
-frame_refusal known bytes = cond (has (frame_of_lem bytes) known) None (Some Frame)
+frame_refusal known bytes = cond (has (frame_of bytes) known) None (Some Frame)
 
 abbrev pub number_refusal : List ℕ → Option LineFault
 number_refusal bytes = at_place (λ k. Number Lowest (4 + 8 * k)) (find is_lowest (numbers bytes))
@@ -65,7 +65,7 @@ refusal known bytes =
     first (length_refusal bytes) (first (digit_refusal bytes) (first (size_refusal bytes) (first (frame_refusal known bytes) (number_refusal bytes))))
 
 abbrev pub line_of : List ℕ → Line
-line_of bytes = record { frame = frame_of_lem bytes; count = count_of bytes }
+line_of bytes = record { frame = frame_of bytes; count = count_of bytes }
 
 abbrev pub answered : Option LineFault → Line → Result Line LineFault
 answered None line = Ok line
@@ -89,4 +89,4 @@ words_left (Some fault) bytes old = old
 abbrev pub ReadsBack : ℕ → List ℤ → Type 0
 ReadsBack frame ws =
     (known : List ℕ) → has frame known ≡ true → find is_lowest ws ≡ None →
-    (refusal known (line_text frame ws) ≡ None) × (frame_of_lem (line_text frame ws) ≡ frame) × (numbers (line_text frame ws) ≡ ws)
+    (refusal known (line_text frame ws) ≡ None) × (frame_of (line_text frame ws) ≡ frame) × (numbers (line_text frame ws) ≡ ws)

@@ -2,7 +2,7 @@
 use Rattle.std.proofs.Common.{◌≡◌, ℕ, zero, suc, List, [], ◌∷◌, map, length, replicate, ℤ, pos, ◌+ℤ◌, ◌*ℤ◌, sym, refl, ap, ◌∙◌, arith}
 use native.Mathlib.Nat.{suc_inj}
 use lib.ListN.{length-map, length-replicate}
-use Rattle.std.specs.List.{AllByRecursion as All}
+use Rattle.std.specs.List.{AllByRecursion}
 use Rattle.std.proofs.ByRecursion.{All-map, All-weaker}
 use Rattle.kinds.specs.Kind.{Arithmetic, Laws, Same}
 use Rattle.kinds.specs.Ring.{ring}
@@ -23,7 +23,7 @@ module _ {N C : Type 0} (a : Arithmetic N C) (laws : Laws a) where
   abbrev below : List (List N) → List (List N)
   below vs = map (λ v. a.zero ∷ v) vs
 
-  firsts : (vs : List (List N)) → All (λ x. Same a.modulus x (pos 0)) (map first (map (meant a) (below vs)))
+  firsts : (vs : List (List N)) → AllByRecursion (λ x. Same a.modulus x (pos 0)) (map first (map (meant a) (below vs)))
   firsts [] = tt
   firsts (v ∷ vs) = (laws.zero_means, firsts vs)
 

@@ -3,7 +3,7 @@ use Rattle.std.proofs.Common.{◌≡◌, ℕ, zero, suc, ◌+◌, ◌<◌, Bool,
 use borrow.Author.Differences.{ints}
 use lib.ListN.{length-map}
 use lib.IntN.{+ℤ_comm}
-use Rattle.std.specs.List.{AllByRecursion as All}
+use Rattle.std.specs.List.{AllByRecursion}
 use Rattle.std.proofs.lemmas.List.{map-set, get_or-map}
 use Rattle.std.proofs.ByRecursion.{All-get_or, All-set, All-map}
 use Rattle.std.proofs.lemmas.Bool.{eqb-true, eqb-false, cond_both}
@@ -32,7 +32,7 @@ move x w h = same_trans (same_eq (there x w)) (same_trans (same_add {c = neg_ℤ
 gather : (y q d : ℤ) → neg_ℤ (y *ℤ d) -ℤ q *ℤ d ≡ neg_ℤ (y +ℤ q) *ℤ d
 gather y q d = simp ring
 
-pub all_without : {X : Type 0} (P : X → Type 0) (xs : List X) (i : ℕ) → All P xs → All P (without xs i)
+pub all_without : {X : Type 0} (P : X → Type 0) (xs : List X) (i : ℕ) → AllByRecursion P xs → AllByRecursion P (without xs i)
 all_without P [] i h = tt
 all_without P (x ∷ xs) zero h = h.1
 all_without P (x ∷ xs) (suc i) h = (h.0, all_without P xs i h.1)
@@ -117,7 +117,7 @@ module _ {N C : Type 0} (a : Arithmetic N C) (laws : Laws a) where
     -- what every step keeps: the lengths, and what the columns tell
     record Keeps (w : Work N) : Type 0 where
       B_length : length w.B.low ≡ n
-      lows_length : All (λ c. length c.low ≡ n) w.columns
+      lows_length : AllByRecursion (λ c. length c.low ≡ n) w.columns
       many : length w.columns ≡ length s.moves
       tells : Tells a.modulus n es e (full a w.B) (map (full a) w.columns)
 

@@ -1,7 +1,7 @@
 -- A posting that is taken leaves lists as long as those before it, and one move fewer.
 use Rattle.std.proofs.Common.{◌≡◌, ℕ, zero, suc, ◌+◌, cond, eqb, List, [], map, length, Some, None, Option, sym, refl, ap, ◌∙◌, subst, add-one, length-set}
 use lib.ListN.{length-map}
-use Rattle.std.specs.List.{AllByRecursion as All}
+use Rattle.std.specs.List.{AllByRecursion}
 use Rattle.std.proofs.ByRecursion.{All-get_or, All-set, All-map}
 use Rattle.std.proofs.lemmas.Bool.{cond_both}
 use Rattle.kinds.specs.Kind.{Arithmetic, Laws}
@@ -32,7 +32,7 @@ Leaves n k overflow = Unit {0}
 module _ {N C : Type 0} (a : Arithmetic N C) (laws : Laws a) (n k : ℕ) where
   record Lengths (w : Work N) : Type 0 where
     B_length : length w.B.low ≡ n
-    lows_length : All (λ c. length c.low ≡ n) w.columns
+    lows_length : AllByRecursion (λ c. length c.low ≡ n) w.columns
     many : length w.columns ≡ k
 
   round_lengths : (w v : Work N) → Lengths w → turn a w ≡ again v → Lengths v

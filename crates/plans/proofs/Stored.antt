@@ -2,7 +2,7 @@
 use Rattle.std.proofs.Common.{◌≡◌, ℕ, zero, suc, ◌<◌, ◌≢◌, List, [], ◌∷◌, map, length, ℤ, pos, ◌+ℤ◌, ◌*ℤ◌, Some, Option, sym, refl, ap, ◌∙◌, subst, arith}
 use native.Mathlib.Nat.{suc_inj}
 use lib.ListN.{length-map}
-use Rattle.std.specs.List.{AllByRecursion as All}
+use Rattle.std.specs.List.{AllByRecursion}
 use Rattle.std.proofs.lemmas.List.{get_or-map}
 use Rattle.kinds.specs.Kind.{Arithmetic, Laws, Same}
 use Rattle.kinds.specs.Equation.{dot}
@@ -81,12 +81,12 @@ module _ {N C : Type 0} (a : Arithmetic N C) (laws : Laws a) where
       (topped_means cs c vs s.0 k s.1.0))
 
   -- the moves' columns are as long as the moves
-  pub topped_lows : (n : ℕ) (cs : List N) (vs : List (List N)) (ds : List (Column N)) → topped a cs vs ≡ Some ds → Sized n vs → All (λ d. length d.low ≡ n) ds
-  topped_lows n cs [] ds h k = subst (λ x. All (λ d. length d.low ≡ n) x) (some_is h) tt
+  pub topped_lows : (n : ℕ) (cs : List N) (vs : List (List N)) (ds : List (Column N)) → topped a cs vs ≡ Some ds → Sized n vs → AllByRecursion (λ d. length d.low ≡ n) ds
+  topped_lows n cs [] ds h k = subst (λ x. AllByRecursion (λ d. length d.low ≡ n) x) (some_is h) tt
   topped_lows n cs (v ∷ vs) ds h k =
       let r = then_some (running a a.zero cs v) _ ds h in
       let s = then_some (topped a cs vs) _ ds r.1.1 in
-      subst (λ x. All (λ d. length d.low ≡ n) x) (some_is s.1.1) (k.0, topped_lows n cs vs s.0 s.1.0 k.1)
+      subst (λ x. AllByRecursion (λ d. length d.low ≡ n) x) (some_is s.1.1) (k.0, topped_lows n cs vs s.0 s.1.0 k.1)
 
   pub adds_length : (u : List N) (q : N) (v w : List N) → adds a u q v ≡ Some w → length w ≡ length u
   adds_length u q v w h = sym (length-map w a.means) ∙ lists_length (adds_means u q v w h) ∙ plus_length (meant a u) (a.means q) (meant a v) ∙ length-map u a.means
@@ -112,24 +112,24 @@ module _ {N C : Type 0} (a : Arithmetic N C) (laws : Laws a) where
       (lists_trans (column_means (blank a c) q c r.0 r.1.0) (also (zero_and (a.means q *ℤ a.means c.top)) (zeros_times (a.means q) c.low)))
       (normalised_means cs s.0 s.1.0))
 
-  pub normalised_lows : (n : ℕ) (cs ds : List (Column N)) → normalised a cs ≡ Some ds → All (λ c. length c.low ≡ n) cs → All (λ d. length d.low ≡ n) ds
-  normalised_lows n [] ds h k = subst (λ x. All (λ d. length d.low ≡ n) x) (some_is h) tt
+  pub normalised_lows : (n : ℕ) (cs ds : List (Column N)) → normalised a cs ≡ Some ds → AllByRecursion (λ c. length c.low ≡ n) cs → AllByRecursion (λ d. length d.low ≡ n) ds
+  normalised_lows n [] ds h k = subst (λ x. AllByRecursion (λ d. length d.low ≡ n) x) (some_is h) tt
   normalised_lows n (c ∷ cs) ds h k =
       let r = then_some (adds_column a (blank a c) (a.unit c.top) c) _ ds h in
       let s = then_some (normalised a cs) _ ds r.1.1 in
-      subst (λ x. All (λ d. length d.low ≡ n) x) (some_is s.1.1)
+      subst (λ x. AllByRecursion (λ d. length d.low ≡ n) x) (some_is s.1.1)
       (column_length (blank a c) (a.unit c.top) c r.0 r.1.0 ∙ length-map c.low (λ _. a.zero) ∙ k.0, normalised_lows n cs s.0 s.1.0 k.1)
 
   -- tops of size 0 are the same as 0: all of them, each, and all but that of the pivot
-  pub zero_tops : (cs : List (Column N)) → total_size a cs ≡ 0 → All (λ x. Same a.modulus x (pos 0)) (map first (map (full a) cs))
+  pub zero_tops : (cs : List (Column N)) → total_size a cs ≡ 0 → AllByRecursion (λ x. Same a.modulus x (pos 0)) (map first (map (full a) cs))
   zero_tops [] h = tt
   zero_tops (c ∷ cs) h = (laws.zero_size c.top (omega arith), zero_tops cs (omega arith))
 
-  each_top : (cs : List (Column N)) → ((j : ℕ) → j < length cs → size_at a cs j ≡ 0) → All (λ x. Same a.modulus x (pos 0)) (map first (map (full a) cs))
+  each_top : (cs : List (Column N)) → ((j : ℕ) → j < length cs → size_at a cs j ≡ 0) → AllByRecursion (λ x. Same a.modulus x (pos 0)) (map first (map (full a) cs))
   each_top [] f = tt
   each_top (c ∷ cs) f = (laws.zero_size c.top (f 0 (omega arith)), each_top cs (λ j h. f (suc j) (omega arith)))
 
-  pub lone_top : (cs : List (Column N)) (l : ℕ) → ((j : ℕ) → j < length cs → j ≢ l → size_at a cs j ≡ 0) → All (λ x. Same a.modulus x (pos 0)) (without (map first (map (full a) cs)) l)
+  pub lone_top : (cs : List (Column N)) (l : ℕ) → ((j : ℕ) → j < length cs → j ≢ l → size_at a cs j ≡ 0) → AllByRecursion (λ x. Same a.modulus x (pos 0)) (without (map first (map (full a) cs)) l)
   lone_top [] l f = tt
   lone_top (c ∷ cs) zero f = each_top cs (λ j h. f (suc j) (omega arith) (omega arith))
   lone_top (c ∷ cs) (suc l) f = (laws.zero_size c.top (f 0 (omega arith) (omega arith)), lone_top cs l (λ j h k. f (suc j) (omega arith) (λ e. k (suc_inj e))))

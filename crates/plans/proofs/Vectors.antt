@@ -3,7 +3,7 @@ use Rattle.std.proofs.Common.{◌≡◌, ℕ, zero, suc, ◌<◌, ◌≢◌, Lis
 use native.Mathlib.Nat.{suc_inj}
 use borrow.Author.Differences.{ints}
 use lib.IntN.{+ℤ_comm}
-use Rattle.std.specs.List.{AllByRecursion as All}
+use Rattle.std.specs.List.{AllByRecursion}
 use Rattle.kinds.specs.Kind.{Same}
 use Rattle.kinds.specs.Equation.{dot}
 use Rattle.kinds.specs.Ring.{ring}
@@ -221,12 +221,12 @@ made_under c b u (v ∷ vs) (y ∷ ys) h =
 vanish : {m : ℕ} (x y t : ℤ) → Same m t (pos 0) → Same m (x +ℤ y *ℤ t) x
 vanish x y t h = same_trans (same_add {a = x} same_refl (same_mul {a = y} same_refl h)) (same_eq (simp ring))
 
-pub top_made_none : {m : ℕ} (x : ℤ) (ts ys : List ℤ) → All (λ t. Same m t (pos 0)) ts → Same m (top_made x ts ys) x
+pub top_made_none : {m : ℕ} (x : ℤ) (ts ys : List ℤ) → AllByRecursion (λ t. Same m t (pos 0)) ts → Same m (top_made x ts ys) x
 top_made_none x [] ys h = same_refl
 top_made_none x (t ∷ ts) [] h = same_refl
 top_made_none x (t ∷ ts) (y ∷ ys) h = same_trans (top_made_none (x +ℤ y *ℤ t) ts ys h.1) (vanish x y t h.0)
 
-pub top_made_one : {m : ℕ} (x : ℤ) (ts ys : List ℤ) (l : ℕ) → l < length ts → length ys ≡ length ts → All (λ t. Same m t (pos 0)) (without ts l) → Same m (top_made x ts ys) (x +ℤ get_or ys l (pos 0) *ℤ get_or ts l (pos 0))
+pub top_made_one : {m : ℕ} (x : ℤ) (ts ys : List ℤ) (l : ℕ) → l < length ts → length ys ≡ length ts → AllByRecursion (λ t. Same m t (pos 0)) (without ts l) → Same m (top_made x ts ys) (x +ℤ get_or ys l (pos 0) *ℤ get_or ts l (pos 0))
 top_made_one x [] ys l h e k = absurd (omega arith)
 top_made_one x (t ∷ ts) [] l h e k = absurd (omega arith)
 top_made_one x (t ∷ ts) (y ∷ ys) zero h e k = top_made_none (x +ℤ y *ℤ t) ts ys k

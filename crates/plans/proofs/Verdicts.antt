@@ -3,7 +3,7 @@ use Rattle.std.proofs.Common.{◌≡◌, ℕ, zero, suc, ◌<◌, ◌⊎◌, Lis
 use native.Mathlib.Nat.{suc_inj}
 use borrow.Author.Differences.{ints}
 use lib.ListN.{length-map, length-replicate}
-use Rattle.std.specs.List.{AllByRecursion as All}
+use Rattle.std.specs.List.{AllByRecursion}
 use Rattle.kinds.specs.Kind.{Same}
 use Rattle.kinds.specs.Equation.{Equation, dot, Meets}
 use Rattle.kinds.specs.Ring.{ring}
@@ -132,15 +132,15 @@ module _ {m n : ℕ} {es : List Equation} {e : Equation} {x : ℤ} {u : List ℤ
   a_plan : Plan m n es
   a_plan = let r = t.each (zeros (length vs)) (zeros_length (length vs)) in (r.0, r.1, r.2)
 
-  pub flat_implied : All (λ a. Same m a (pos 0)) (map first vs) → Same m x (pos 0) → Verdict m n es e is_implied
+  pub flat_implied : AllByRecursion (λ a. Same m a (pos 0)) (map first vs) → Same m x (pos 0) → Verdict m n es e is_implied
   flat_implied z h = judged_implied (λ p. let r = t.every p.0 p.1 p.2 in
       value_meets e p.0 (same_trans (value p.0 r.0 r.2) (same_trans (top_made_none x (map first vs) r.0 z) h))) a_plan
 
-  pub flat_contradicted : All (λ a. Same m a (pos 0)) (map first vs) → ¬ Same m x (pos 0) → Verdict m n es e is_contradicted
+  pub flat_contradicted : AllByRecursion (λ a. Same m a (pos 0)) (map first vs) → ¬ Same m x (pos 0) → Verdict m n es e is_contradicted
   flat_contradicted z h = judged_contradicted (λ p k. let r = t.every p.0 p.1 p.2 in
       h (same_trans (same_sym (top_made_none x (map first vs) r.0 z)) (same_trans (same_sym (value p.0 r.0 r.2)) (meets_value e p.0 k)))) a_plan
 
-  module _ (l : ℕ) (i : l < length vs) (z : All (λ a. Same m a (pos 0)) (without (map first vs) l)) where
+  module _ (l : ℕ) (i : l < length vs) (z : AllByRecursion (λ a. Same m a (pos 0)) (without (map first vs) l)) where
     value_one : (p y : List ℤ) → length y ≡ length vs → SameLists m (over e p) (made (x ∷ u) vs y) →
         Same m (dot e.coefficients p +ℤ neg_ℤ e.right) (x +ℤ get_or y l (pos 0) *ℤ top_at vs l)
     value_one p y k h = same_trans (value p y h) (top_made_one x (map first vs) y l (subst (λ j. l < j) (sym (length-map vs first)) i) (k ∙ sym (length-map vs first)) z)

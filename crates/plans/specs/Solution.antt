@@ -1,6 +1,6 @@
 -- What a sheet stands for: the general solution of equations, and the verdict on one equation more. Assumes nothing.
 use Rattle.std.specs.Prelude.{◌≡◌, ℕ, ◌↔◌, List, [], ◌∷◌, map, length, ℤ, ◌+ℤ◌, ◌*ℤ◌}
-use Rattle.std.specs.List.{AllByRecursion as All}
+use Rattle.std.specs.List.{AllByRecursion}
 use Rattle.kinds.specs.Kind.{Arithmetic, Same}
 use Rattle.kinds.specs.Equation.{Equation, Meets}
 use Rattle.plans.specs.Sheet.{Contents}
@@ -12,7 +12,7 @@ pub data SameLists (m : ℕ) : List ℤ → List ℤ → Type 0 where
 
 -- the plan meets every equation
 abbrev pub MeetsAll : ℕ → List Equation → List ℤ → Type 0
-MeetsAll m es plan = All (λ e. Meets m e plan) es
+MeetsAll m es plan = AllByRecursion (λ e. Meets m e plan) es
 
 -- a plan of n numbers that meets every equation
 abbrev pub Plan : ℕ → ℕ → List Equation → Type 0
@@ -50,7 +50,7 @@ pub record Verdict (m n : ℕ) (es : List Equation) (e : Equation) (j : Judgemen
 
 -- each of the lists has n numbers
 abbrev pub Sized : {X : Type 0} → ℕ → List (List X) → Type 0
-Sized n vs = All (λ v. length v ≡ n) vs
+Sized n vs = AllByRecursion (λ v. length v ≡ n) vs
 
 -- the sheet stands for the equations es in n unknowns: its lists have n numbers, and what they mean is the general solution
 pub record Holds {N C : Type 0} (a : Arithmetic N C) (n : ℕ) (es : List Equation) (s : Contents N) : Type 0 where

@@ -1,6 +1,6 @@
 -- The promise of a run: what its calls put in force, what the cells then stand for, and what each posting is answered. Assumes nothing.
 use Rattle.std.specs.Prelude.{◌≡◌, ℕ, ◌+◌, ◌↔◌, List, [], ◌∷◌, ◌++◌, map, length, ℤ}
-use Rattle.std.specs.List.{AllByRecursion as All}
+use Rattle.std.specs.List.{AllByRecursion}
 use Rattle.faults.specs.declared.NumberFault.TheVariants.{NotAdmitted}
 use Rattle.faults.specs.declared.SheetFault.TheVariants.{Number, NoSheet, Count, Overflow, Contradicted}
 use Rattle.kinds.specs.Kind.{Arithmetic, Admitted}
@@ -63,7 +63,7 @@ module _ {N C : Type 0} (a : Arithmetic N C) where
     -- for word i exactly when they are, and that is the first that the kind does not admit
     pub word : (i : ℕ) → (r ≡ Refused (Number (NotAdmitted i))) ↔ ((¬ (n ≡ 0)) × (length ws ≡ n + 1) × FirstRefused a ws i)
     -- for overflow exactly when all are admitted, and a step of the posting gives a number that cannot be stored
-    pub overflows : (r ≡ Refused Overflow) ↔ ((¬ (n ≡ 0)) × (length ws ≡ n + 1) × All (Admitted a) ws × (outcome_of a m ws ≡ overflow))
+    pub overflows : (r ≡ Refused Overflow) ↔ ((¬ (n ≡ 0)) × (length ws ≡ n + 1) × AllByRecursion (Admitted a) ws × (outcome_of a m ws ≡ overflow))
     -- any other answer says which of the plans that meet every equation in force meet the posted one too: all, some and not all, or none
     pub verdict : GoesThrough r → (j : Judgement) × (r ≡ judged j) × Verdict a.modulus n es (equation_of n ws) j
 

@@ -4,7 +4,7 @@ use mir.Val.{sel}
 use Rattle.std.proofs.ByRecursion.{All-take, All-drop}
 use Rattle.std.proofs.lemmas.List.{length-take-le, length-drop}
 use Rattle.std.proofs.lemmas.Bool.{ltb-true, ltb-false}
-use Rattle.std.specs.List.{AllByRecursion as All}
+use Rattle.std.specs.List.{AllByRecursion}
 use Rattle.faults.specs.declared.NumberFault.TheVariants.{Lowest, Modulus, Unknowns, ListNumber, NotAdmitted}
 use Rattle.faults.specs.declared.LineFault.{LineFault}
 use Rattle.faults.specs.declared.SheetFault.{SheetFault}
@@ -35,7 +35,7 @@ use Rattle.sessions.specs.declared.frame.Request.{Request}
 use Rattle.sessions.specs.declared.frame.Request.TheVariants.{Equation as Posting, Clear, Pick, Show}
 use Rattle.sessions.proofs.Replies.{Small}
 use Rattle.lines.specs.Hex.{Hex, hex_value, number_of}
-use Rattle.lines.specs.Line.{frame_of_lem, numbers, count_of, words_of, refusal}
+use Rattle.lines.specs.Line.{frame_of, numbers, count_of, words_of, refusal}
 use Rattle.lines.proofs.Accepting.{accepted}
 use Rattle.lines.proofs.Digits.{word_small}
 
@@ -47,7 +47,7 @@ word_fits n h = by (ltb n 2147483648) refl
     by true e = record { sfits = ltb-true n 2147483648 e }
     by false e = let g = ltb-false n 2147483648 e in record { sfits = omega arith }
 
-words_fit : (n : ℕ) (ds : List ℕ) → length ds ≡ 8 * n → Hex ds → All (SFits w32) (words_of n ds)
+words_fit : (n : ℕ) (ds : List ℕ) → length ds ≡ 8 * n → Hex ds → AllByRecursion (SFits w32) (words_of n ds)
 words_fit zero ds l h = tt
 words_fit (suc n) ds l h =
     let t = length-take-le 8 ds (omega arith) in (
@@ -55,7 +55,7 @@ words_fit (suc n) ds l h =
       words_fit n (drop 8 ds) (length-drop 8 ds ∙ omega arith) (All-drop (λ c. hex_value c < 16) 8 ds h),
     )
 
-pub numbers_fit : (known bytes : List ℕ) → refusal known bytes ≡ None → All (SFits w32) (numbers bytes)
+pub numbers_fit : (known bytes : List ℕ) → refusal known bytes ≡ None → AllByRecursion (SFits w32) (numbers bytes)
 numbers_fit known bytes e =
     let w = accepted known bytes e in
     words_fit (count_of bytes) (drop 4 bytes) (length-drop 4 bytes ∙ omega (arith, w.sized)) (All-drop (λ c. hex_value c < 16) 4 bytes w.hex)
@@ -91,7 +91,7 @@ judgement_same (Ok Taken) = refl
 judgement_same (Ok Implied) = refl
 judgement_same (Err fault) = judgement_placed fault
 
-module _ {N C : Type 0} (a : Arithmetic N C) (laws : Laws a) (m : Model C) (few : m.moves ≤ m.unknowns) (ws : List ℤ) (fit : All (SFits w32) ws) where
+module _ {N C : Type 0} (a : Arithmetic N C) (laws : Laws a) (m : Model C) (few : m.moves ≤ m.unknowns) (ws : List ℤ) (fit : AllByRecursion (SFits w32) ws) where
   abbrev e : Equation
   e = equation_of m.unknowns ws
 
@@ -145,7 +145,7 @@ open_kept v (Err fault) ws n = (refl, refl)
 ask_verdict : {X : Type 0} (q : Request) → Ask q ≡ Ask Posting → (q ≡ Posting → X) → X
 ask_verdict q e f = let g : q ≡ Posting = cc in f g
 
-act_law : (v : View) (frame : Frame) (ws : List ℤ) → Small v → All (SFits w32) ws → FrameLaw v frame ws (act v frame ws) (acted v frame ws)
+act_law : (v : View) (frame : Frame) (ws : List ℤ) → Small v → AllByRecursion (SFits w32) ws → FrameLaw v frame ws (act v frame ws) (acted v frame ws)
 act_law v Open ws s fit = record {
   kept = λ n. open_kept v (open_check v ws) ws n;
   in_force = λ es h. open_stands v (open_check v ws) ws (equation_of (unknowns_of v) ws) es h;
@@ -166,6 +166,6 @@ act_law (on_weekday w m) (Ask q) ws (s, few) fit = record {
 pub line_law : (v : View) (line : List ℕ) → Small v → LineLaw v line (line_after v line)
 line_law v line s = by (refusal known line) refl
   where
-    by : (o : Option LineFault) → refusal known line ≡ o → FrameLaw v (frame_kind (frame_of_lem line)) (numbers line) (answer_by o v line) (after_by o v line)
-    by None e = act_law v (frame_kind (frame_of_lem line)) (numbers line) s (numbers_fit known line e)
+    by : (o : Option LineFault) → refusal known line ≡ o → FrameLaw v (frame_kind (frame_of line)) (numbers line) (answer_by o v line) (after_by o v line)
+    by None e = act_law v (frame_kind (frame_of line)) (numbers line) s (numbers_fit known line e)
     by (Some fault) e = record { kept = λ n. (refl, refl); in_force = λ es h. h; verdict = λ f es h j g. absurd (none_some g) }

@@ -10,7 +10,7 @@ use Rattle.faults.specs.declared.SheetFault.TheVariants.{Page, Line, NoSheet}
 use Rattle.kinds.specs.Kind.{Arithmetic}
 use Rattle.kinds.specs.Weekday.{weekdays}
 use Rattle.kinds.specs.Whole.{wholes}
-use Rattle.lines.specs.Line.{frame_of_lem, numbers, refusal}
+use Rattle.lines.specs.Line.{frame_of, numbers, refusal}
 use Rattle.lines.specs.Page.{Model as PageModel, with_text}
 use Rattle.sheets.specs.Cells.{contents_in}
 use Rattle.sheets.specs.Picking.{pick_refusal_lem, plan_in, pick_unless, words_unless}
@@ -152,14 +152,14 @@ pub shown_stands : (v : View) (line : List ℕ) → line_answer v line ≡ Ok Sh
 shown_stands v line e = by (refusal known line) e
   where
     by : (o : Option LineFault) → answer_by o v line ≡ Ok Shown → Stands (after_by o v line)
-    by None e = act_stands v (frame_kind (frame_of_lem line)) (numbers line) e
+    by None e = act_stands v (frame_kind (frame_of line)) (numbers line) e
     by (Some fault) e = absurd (not_ok (Line fault) Shown e)
 
 pub plan_picked : (v : View) (line : List ℕ) (old : List ℤ) → Small v → 24 ≤ length old → line_answer v line ≡ Ok Picked → take (unknowns_of (line_after v line)) (line_plan v line old) ≡ picked_of (line_after v line) (numbers line)
 plan_picked v line old s h e = by (refusal known line) e
   where
     by : (o : Option LineFault) → answer_by o v line ≡ Ok Picked → take (unknowns_of (after_by o v line)) (plan_by o v line old) ≡ picked_of (after_by o v line) (numbers line)
-    by None e = act_picked v (frame_kind (frame_of_lem line)) (numbers line) old s h e
+    by None e = act_picked v (frame_kind (frame_of line)) (numbers line) old s h e
     by (Some fault) e = absurd (not_ok (Line fault) Picked e)
 
 -- a sheet that stands is shown on a page that has 4925 bytes left

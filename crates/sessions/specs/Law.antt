@@ -5,7 +5,7 @@ use Rattle.faults.specs.declared.SheetFault.TheVariants.{Page, Line, Number, NoS
 use Rattle.kinds.specs.Equation.{Equation}
 use Rattle.kinds.specs.Weekday.{weekdays}
 use Rattle.kinds.specs.Whole.{wholes}
-use Rattle.lines.specs.Line.{frame_of_lem, numbers}
+use Rattle.lines.specs.Line.{frame_of, numbers}
 use Rattle.plans.specs.Solution.{Judgement, is_taken, is_implied, is_contradicted, Verdict}
 use Rattle.sheets.specs.Law.{equation_of, StandsFor}
 use Rattle.sheets.specs.declared.posting.Verdict.TheVariants.{Taken, Implied}
@@ -66,4 +66,4 @@ pub record FrameLaw (v : View) (frame : Frame) (ws : List ℤ) (r : Result Done 
 
 -- the same of a line
 abbrev pub LineLaw : View → List ℕ → View → Type 0
-LineLaw v line after = FrameLaw v (frame_kind (frame_of_lem line)) (numbers line) (line_answer v line) after
+LineLaw v line after = FrameLaw v (frame_kind (frame_of line)) (numbers line) (line_answer v line) after

@@ -10,7 +10,7 @@ use Rattle.kinds.specs.Weekday.{weekdays}
 use Rattle.kinds.specs.Whole.{wholes}
 use Rattle.kinds.specs.declared.weekday.WeekdayCell.{WeekdayCell}
 use Rattle.kinds.specs.declared.whole.WholeCell.{WholeCell}
-use Rattle.lines.specs.Line.{line_text, frame_of_lem, numbers, refusal}
+use Rattle.lines.specs.Line.{line_text, frame_of, numbers, refusal}
 use Rattle.lines.specs.Page.{Model as PageModel, with_text}
 use Rattle.sheets.specs.Cells.{contents_in}
 use Rattle.sheets.specs.Sheet.{Model, model_of, checked, opened}
@@ -108,15 +108,15 @@ planned (on_weekday w m) (Ask request) ws old = ask_plan weekdays m request ws o
 -- what comes of a line: its reader's refusal first
 abbrev pub answer_by : Option LineFault → View → List ℕ → Result Done SheetFault
 answer_by (Some fault) v line = Err (Line fault)
-answer_by None v line = act v (frame_kind (frame_of_lem line)) (numbers line)
+answer_by None v line = act v (frame_kind (frame_of line)) (numbers line)
 
 abbrev pub after_by : Option LineFault → View → List ℕ → View
 after_by (Some fault) v line = v
-after_by None v line = acted v (frame_kind (frame_of_lem line)) (numbers line)
+after_by None v line = acted v (frame_kind (frame_of line)) (numbers line)
 
 abbrev pub plan_by : Option LineFault → View → List ℕ → List ℤ → List ℤ
 plan_by (Some fault) v line old = old
-plan_by None v line old = planned v (frame_kind (frame_of_lem line)) (numbers line) old
+plan_by None v line old = planned v (frame_kind (frame_of line)) (numbers line) old
 
 abbrev pub line_answer : View → List ℕ → Result Done SheetFault
 line_answer v line = answer_by (refusal known line) v line

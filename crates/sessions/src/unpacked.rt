@@ -1,6 +1,6 @@
 // The lent words that a line is unpacked into.
 ghost use Rattle.std.specs.Prelude.{◌≡◌, ◌≤◌, length, take, Some, None, MatchResult};
-ghost use Rattle.lines.specs.Line.{frame_of_lem, numbers, refusal};
+ghost use Rattle.lines.specs.Line.{frame_of as line_frame, numbers, refusal};
 ghost use Rattle.sessions.specs.Frames.{known, frame_kind};
 ghost use Rattle.sessions.specs.Wiped.{wiped};
 
@@ -51,7 +51,7 @@ impl<'a> Unpacked<'a> {
     pub(crate) fn read(&mut self, line: &[u8]) -> Result<Asked, LineFault>
         requires { 25 ≤ length self.old.words.now }
         ensures held { self.new.words.ghost_name ≡ self.old.words.ghost_name }
-        ensures asked { MatchResult result (λ asked. (refusal known line.now ≡ None) × (asked.frame ≡ frame_kind (frame_of_lem line.now)) × (asked.count ≤ 25) × (take asked.count self.new.words.now ≡ numbers line.now)) (λ fault. refusal known line.now ≡ Some fault) }
+        ensures asked { MatchResult result (λ asked. (refusal known line.now ≡ None) × (asked.frame ≡ frame_kind (line_frame line.now)) × (asked.count ≤ 25) × (take asked.count self.new.words.now ≡ numbers line.now)) (λ fault. refusal known line.now ≡ Some fault) }
         ensures len { length self.new.words.now ≡ length self.old.words.now }
         ensures wiped { wiped self.new.words.now ≡ wiped self.old.words.now }
     {

@@ -1,6 +1,6 @@
 -- The words of a call: which are admitted, and what their numbers mean.
 use Rattle.std.proofs.Common.{◌≡◌, ℕ, zero, suc, ◌+◌, ◌<◌, Bool, true, false, cond, not, List, [], ◌∷◌, map, length, get_or, take, ℤ, pos, is_some, Some, None, Option, sym, refl, ap, ◌∙◌, subst, add-zero, zero-add, arith, w32, SFits}
-use Rattle.std.specs.List.{AllByRecursion as All}
+use Rattle.std.specs.List.{AllByRecursion}
 use Rattle.std.proofs.ByRecursion.{All-weaker}
 use Rattle.std.proofs.lemmas.Bool.{cond-true, cond-false}
 use Rattle.kinds.specs.Kind.{Arithmetic, Laws, Same, Admitted}
@@ -14,7 +14,7 @@ use Rattle.sheets.specs.Words.{number_of, numbers_of, is_refused}
 -- the first element that passes a test, and none before it
 module _ {A : Type 0} (test : A → Bool) (d : A) where
   abbrev First : List A → ℕ → Type 0
-  First xs j = (j < length xs) × (test (get_or xs j d) ≡ true) × All (λ x. test x ≡ false) (take j xs)
+  First xs j = (j < length xs) × (test (get_or xs j d) ≡ true) × AllByRecursion (λ x. test x ≡ false) (take j xs)
 
   found : (i : ℕ) (xs : List A) (k : ℕ) → find_from test i xs ≡ Some k → (j : ℕ) × (i + j ≡ k) × First xs j
   found i [] k e = let z : ◌≡◌ {A = ℕ} 0 1 = cc in absurd (omega arith)
@@ -55,10 +55,10 @@ module _ {N C : Type 0} (a : Arithmetic N C) where
       by (Some x) h = absurd (n (x, h))
       by None h = refl
 
-  all_admitted : (ws : List ℤ) → All TakenUp ws → All (Admitted a) ws
+  all_admitted : (ws : List ℤ) → AllByRecursion TakenUp ws → AllByRecursion (Admitted a) ws
   all_admitted = All-weaker TakenUp (Admitted a) admitted
 
-  pub all_taken_up : (ws : List ℤ) → All (Admitted a) ws → All TakenUp ws
+  pub all_taken_up : (ws : List ℤ) → AllByRecursion (Admitted a) ws → AllByRecursion TakenUp ws
   all_taken_up = All-weaker (Admitted a) TakenUp taken_up
 
   -- the first word that is not admitted
@@ -71,10 +71,10 @@ module _ {N C : Type 0} (a : Arithmetic N C) where
   pub refused_find : (ws : List ℤ) (i : ℕ) → FirstRefused a ws i → find (is_refused a) ws ≡ Some i
   refused_find ws i (h, r, q) = first_found (is_refused a) (pos 0) 0 ws i (h, refused (get_or ws i (pos 0)) r, all_taken_up (take i ws) q) ∙ ap Some (zero-add i)
 
-  pub find_admitted : (ws : List ℤ) → find (is_refused a) ws ≡ None → All (Admitted a) ws
+  pub find_admitted : (ws : List ℤ) → find (is_refused a) ws ≡ None → AllByRecursion (Admitted a) ws
   find_admitted ws e = all_admitted ws (find_none (is_refused a) 0 ws e)
 
-  pub admitted_find : (ws : List ℤ) → All (Admitted a) ws → find (is_refused a) ws ≡ None
+  pub admitted_find : (ws : List ℤ) → AllByRecursion (Admitted a) ws → find (is_refused a) ws ≡ None
   admitted_find ws h = none_find (is_refused a) 0 ws (all_taken_up ws h)
 
   module _ (laws : Laws a) where
@@ -82,6 +82,6 @@ module _ {N C : Type 0} (a : Arithmetic N C) where
     pub number_means : (w : ℤ) → SFits w32 w → Admitted a w → Same a.modulus (a.means (number_of a w)) w
     number_means w f (x, h) = subst (λ (o : Option N). Same a.modulus (a.means (or_zero a o)) w) (sym h) (laws.read_means w x f h)
 
-    pub numbers_mean : (ws : List ℤ) → All (SFits w32) ws → All (Admitted a) ws → SameLists a.modulus (map a.means (numbers_of a ws)) ws
+    pub numbers_mean : (ws : List ℤ) → AllByRecursion (SFits w32) ws → AllByRecursion (Admitted a) ws → SameLists a.modulus (map a.means (numbers_of a ws)) ws
     numbers_mean [] f h = ended
     numbers_mean (w ∷ ws) f h = also (number_means w f.0 h.0) (numbers_mean ws f.1 h.1)

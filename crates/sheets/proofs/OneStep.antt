@@ -1,6 +1,6 @@
 -- Each call on a sheet keeps to its law: what the sheet stands for, its cells' checks, and its spare cells.
 use Rattle.std.proofs.Common.{◌≡◌, ℕ, zero, suc, ◌-◌, ◌*◌, ◌<◌, ◌≤◌, Bool, true, false, cond, ltb, List, [], ◌∷◌, ◌++◌, map, length, get_or, take, drop, ℤ, pos, Some, None, Ok, Err, Option, Result, sym, refl, ap, ◌∙◌, subst, subst₂, arith, w32, SFits}
-use Rattle.std.specs.List.{flat_map, AllByRecursion as All}
+use Rattle.std.specs.List.{flat_map, AllByRecursion}
 use Rattle.std.proofs.ByRecursion.{All-get_or, All-take, All-append}
 use Rattle.std.proofs.lemmas.List.{append_assoc, length-append, length-map, length-replicate, length-take-le, length-drop, take_at, drop_at, take-take}
 use Rattle.std.proofs.lemmas.Bool.{ltb-false}
@@ -61,19 +61,19 @@ module _ {N C : Type 0} (a : Arithmetic N C) (n : ℕ) (M cells : List C) (lm : 
   laid_spare = ap (take (spare_cells n)) (drop_at M (Z ++ drop (needed n) cells) (main_cells n) lm) ∙ take_at Z (drop (needed n) cells) (spare_cells n) length_Z
 
 module _ {N C : Type 0} (a : Arithmetic N C) (laws : Laws a) where
-  zeros_pass : (n : ℕ) → All (Passes a) (zero_cells a n)
+  zeros_pass : (n : ℕ) → AllByRecursion (Passes a) (zero_cells a n)
   zeros_pass zero = tt
   zeros_pass (suc n) = ((a.zero, laws.cell_keeps a.zero), zeros_pass n)
 
-  held_pass : (xs : List N) → All (Passes a) (held a xs)
+  held_pass : (xs : List N) → AllByRecursion (Passes a) (held a xs)
   held_pass [] = tt
   held_pass (x ∷ xs) = ((x, laws.cell_keeps x), held_pass xs)
 
-  main_passes : (n : ℕ) (s : Contents N) → All (Passes a) (main_of a n s)
+  main_passes : (n : ℕ) (s : Contents N) → AllByRecursion (Passes a) (main_of a n s)
   main_passes n s = All-append (Passes a) (held a (s.fixed ++ flat_map (λ m. m) s.moves)) (zero_cells a ((n - length s.moves) * n)) (held_pass (s.fixed ++ flat_map (λ m. m) s.moves)) (zeros_pass ((n - length s.moves) * n))
 
-  laid_passes : (n : ℕ) (M cells : List C) → length M ≡ main_cells n → needed n ≤ length cells → All (Passes a) M → All (Passes a) (take (needed n) (M ++ (zero_cells a (spare_cells n) ++ drop (needed n) cells)))
-  laid_passes n M cells lm room h = subst (All (Passes a)) (sym (laid_needed a n M cells lm room)) (All-append (Passes a) M (zero_cells a (spare_cells n)) h (zeros_pass (spare_cells n)))
+  laid_passes : (n : ℕ) (M cells : List C) → length M ≡ main_cells n → needed n ≤ length cells → AllByRecursion (Passes a) M → AllByRecursion (Passes a) (take (needed n) (M ++ (zero_cells a (spare_cells n) ++ drop (needed n) cells)))
+  laid_passes n M cells lm room h = subst (AllByRecursion (Passes a)) (sym (laid_needed a n M cells lm room)) (All-append (Passes a) M (zero_cells a (spare_cells n)) h (zeros_pass (spare_cells n)))
 
   -- the new sheet of n unknowns
   module _ (n : ℕ) where
@@ -86,7 +86,7 @@ module _ {N C : Type 0} (a : Arithmetic N C) (laws : Laws a) where
     length_new : length (main_of a n (new_sheet a n)) ≡ main_cells n
     length_new = length_main a laws n n (new_sheet a n) new_measured (omega arith)
 
-    pub new_sound : (cells : List C) → needed n ≤ length cells → (needed n ≤ length (sheet_cells a n (new_sheet a n) cells)) × All (Passes a) (take (needed n) (sheet_cells a n (new_sheet a n) cells))
+    pub new_sound : (cells : List C) → needed n ≤ length cells → (needed n ≤ length (sheet_cells a n (new_sheet a n) cells)) × AllByRecursion (Passes a) (take (needed n) (sheet_cells a n (new_sheet a n) cells))
     new_sound cells room = let M = main_of a n (new_sheet a n) in (laid_room a n M cells length_new room, laid_passes n M cells length_new room (main_passes n (new_sheet a n)))
 
     pub new_spare : (cells : List C) → needed n ≤ length cells → part (main_cells n) (spare_cells n) (sheet_cells a n (new_sheet a n) cells) ≡ zero_cells a (spare_cells n)
@@ -186,10 +186,10 @@ module _ {N C : Type 0} (a : Arithmetic N C) (laws : Laws a) where
       outcome_law contradicted r h = record { unknowns = refl; in_force = stays; verdict = λ es k j q. judged es is_contradicted j (r es k) q }
       outcome_law overflow r h = record { unknowns = refl; in_force = stays; verdict = λ es k j q. let z : ◌≡◌ {A = ℕ} 0 1 = cc in absurd (omega arith) }
 
-      kept_passes : All (Passes a) (take (needed n) m.cells) → All (Passes a) (take (main_cells n) m.cells)
-      kept_passes h = subst (All (Passes a)) (take-take (main_cells n) (needed n) m.cells (omega arith)) (All-take (Passes a) (main_cells n) (take (needed n) m.cells) h)
+      kept_passes : AllByRecursion (Passes a) (take (needed n) m.cells) → AllByRecursion (Passes a) (take (main_cells n) m.cells)
+      kept_passes h = subst (AllByRecursion (Passes a)) (take-take (main_cells n) (needed n) m.cells (omega arith)) (All-take (Passes a) (main_cells n) (take (needed n) m.cells) h)
 
-      main_after_passes : (o : Outcome N) → All (Passes a) (take (needed n) m.cells) → All (Passes a) (main_after a o n m.cells)
+      main_after_passes : (o : Outcome N) → AllByRecursion (Passes a) (take (needed n) m.cells) → AllByRecursion (Passes a) (main_after a o n m.cells)
       main_after_passes (taken t) h = main_passes n t
       main_after_passes implied h = kept_passes h
       main_after_passes contradicted h = kept_passes h
@@ -206,7 +206,7 @@ module _ {N C : Type 0} (a : Arithmetic N C) (laws : Laws a) where
     leaves : needed n ≤ length m.cells → Leaves n m.moves (outcome_of a m ws)
     leaves room = posted_leaves a laws n m.moves s (contents_measured a n m.moves m.cells few (omega arith)) (numbers_of a (take n ws)) (number_of a (get_or ws n (pos 0)))
 
-    right : Postable a m ws → All (SFits w32) ws → (es : List Equation) → StandsFor a m es → Right a n es e s (outcome_of a m ws)
+    right : Postable a m ws → AllByRecursion (SFits w32) ws → (es : List Equation) → StandsFor a m es → Right a n es e s (outcome_of a m ws)
     right p f es h =
         let c = p.count in
         let i : n < length ws = omega arith in
@@ -214,7 +214,7 @@ module _ {N C : Type 0} (a : Arithmetic N C) (laws : Laws a) where
         (numbers_mean a laws (take n ws) (All-take (SFits w32) n ws f) (All-take (Admitted a) n ws p.all))
         (number_means a laws (get_or ws n (pos 0)) (All-get_or (SFits w32) ws n (pos 0) i f) (All-get_or (Admitted a) ws n (pos 0) i p.all))
 
-    pub post_law : (post_refusal_lem a m ws ≡ None → All (SFits w32) ws) → PostLaw a m ws (post_answer a m ws) (post_left a m ws)
+    pub post_law : (post_refusal_lem a m ws ≡ None → AllByRecursion (SFits w32) ws) → PostLaw a m ws (post_answer a m ws) (post_left a m ws)
     post_law fit = by (post_refusal_lem a m ws) refl
       where
         by : (o : Option SheetFault) → post_refusal_lem a m ws ≡ o → PostLaw a m ws (answer_unless a o (outcome_of a m ws)) (after_unless a o m (outcome_of a m ws))
@@ -300,7 +300,7 @@ module _ {N C : Type 0} (a : Arithmetic N C) (laws : Laws a) where
 
   -- a picking
   module _ (m : Model C) (few : m.moves ≤ m.unknowns) (choice words : List ℤ) where
-    plan_law : Pickable a m choice (length words) → All (SFits w32) choice → (xs : List N) → plan_in a m choice ≡ Some xs → PickLaw a m choice (Ok tt) (map a.write xs)
+    plan_law : Pickable a m choice (length words) → AllByRecursion (SFits w32) choice → (xs : List N) → plan_in a m choice ≡ Some xs → PickLaw a m choice (Ok tt) (map a.write xs)
     plan_law p fit xs e =
         let k = m.moves in
         let room = (standing m p.stand).room in
@@ -318,7 +318,7 @@ module _ {N C : Type 0} (a : Arithmetic N C) (laws : Laws a) where
     refused_law : (fault : SheetFault) (plan : List ℤ) → PickLaw a m choice (Err fault) plan
     refused_law fault plan = record { is_made = λ e. let z : ◌≡◌ {A = ℕ} 0 1 = cc in absurd (omega arith); meets = λ e. let z : ◌≡◌ {A = ℕ} 0 1 = cc in absurd (omega arith) }
 
-    pub pick_law : (pick_refusal_lem a m choice (length words) ≡ None → All (SFits w32) choice) → PickLaw a m choice (pick_answer a m choice words) (pick_left a m choice words)
+    pub pick_law : (pick_refusal_lem a m choice (length words) ≡ None → AllByRecursion (SFits w32) choice) → PickLaw a m choice (pick_answer a m choice words) (pick_left a m choice words)
     pick_law fit = by (pick_refusal_lem a m choice (length words)) (plan_in a m choice) refl refl
       where
         by : (o : Option SheetFault) (p : Option (List N)) → pick_refusal_lem a m choice (length words) ≡ o → plan_in a m choice ≡ p → PickLaw a m choice (pick_unless a o p) (words_unless a o p words)
@@ -334,7 +334,7 @@ pub record PostKeeps {N C : Type 0} (a : Arithmetic N C) (m : Model C) (ws : Lis
   pub spare : SpareZero a m → SpareZero a after
   pub wiped : post_refusal_lem a m ws ≡ None → SpareZero a after
 
-pub post_keeps : {N C : Type 0} (a : Arithmetic N C) (laws : Laws a) (m : Model C) → m.moves ≤ m.unknowns → (ws : List ℤ) → (post_refusal_lem a m ws ≡ None → All (SFits w32) ws)
+pub post_keeps : {N C : Type 0} (a : Arithmetic N C) (laws : Laws a) (m : Model C) → m.moves ≤ m.unknowns → (ws : List ℤ) → (post_refusal_lem a m ws ≡ None → AllByRecursion (SFits w32) ws)
     → (r : Result Verdict SheetFault) (after : Model C) → r ≡ post_answer a m ws → after ≡ post_left a m ws → PostKeeps a m ws r after
 post_keeps a laws m few ws fit r after e f =
     subst₂ (PostKeeps a m ws) (sym e) (sym f)

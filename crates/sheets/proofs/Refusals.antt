@@ -1,6 +1,6 @@
 -- When a call on a sheet is refused, and what then holds.
 use Rattle.std.proofs.Common.{◌≡◌, ℕ, ◌+◌, ◌≤◌, Bool, true, false, cond, eqb, ltb, List, length, ℤ, Some, None, Err, Option, Result, sym, refl, ap, ◌∙◌, arith}
-use Rattle.std.specs.List.{AllByRecursion as All}
+use Rattle.std.specs.List.{AllByRecursion}
 use Rattle.std.proofs.lemmas.Bool.{eqb-true, eqb-false, ltb-false}
 use Rattle.faults.specs.declared.NumberFault.TheVariants.{NotAdmitted}
 use Rattle.faults.specs.declared.SheetFault.{SheetFault}
@@ -35,7 +35,7 @@ module _ {N C : Type 0} (a : Arithmetic N C) (m : Model C) (ws : List ℤ) where
   pub record Postable : Type 0 where
     pub stand : stands m ≡ true
     pub count : length ws ≡ m.unknowns + 1
-    pub all : All (Admitted a) ws
+    pub all : AllByRecursion (Admitted a) ws
 
   -- why words are refused, by the three tests
   abbrev refusal : Bool → Bool → Option ℕ → Option SheetFault
@@ -122,7 +122,7 @@ module _ {N C : Type 0} (a : Arithmetic N C) (m : Model C) (choice : List ℤ) (
     pub stand : stands m ≡ true
     pub count : length choice ≡ m.moves
     pub words : len ≡ m.unknowns
-    pub all : All (Admitted a) choice
+    pub all : AllByRecursion (Admitted a) choice
 
   pub pickable : pick_refusal_lem a m choice len ≡ None → Pickable
   pickable e = by (stands m) (eqb (length choice) m.moves) (eqb len m.unknowns) (find (is_refused a) choice) refl refl refl refl e

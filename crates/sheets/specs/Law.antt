@@ -1,6 +1,6 @@
 -- What each call on a sheet keeps to, in the words of equations and plans. Assumes nothing.
 use Rattle.std.specs.Prelude.{◌≡◌, ℕ, ◌+◌, ◌<◌, ◌≤◌, true, false, ◌↔◌, List, [], ◌∷◌, map, length, take, ℤ, pos, Some, None, Ok, Err, Option, Result, slice_index_or}
-use Rattle.std.specs.List.{AllByRecursion as All}
+use Rattle.std.specs.List.{AllByRecursion}
 use Rattle.faults.specs.declared.NumberFault.TheVariants.{NotAdmitted}
 use Rattle.faults.specs.declared.SheetFault.{SheetFault}
 use Rattle.faults.specs.declared.SheetFault.TheVariants.{Page, Line, Number, NoSheet, Count, FewCells, Overflow, Contradicted}
@@ -57,7 +57,7 @@ module _ {N C : Type 0} (a : Arithmetic N C) where
 
   -- a sheet that has unknowns has all its cells, and each passes its check
   abbrev pub Sound : Model C → Type 0
-  Sound m = ¬ (m.unknowns ≡ 0) → (needed m.unknowns ≤ length m.cells) × All Passes (take (needed m.unknowns) m.cells)
+  Sound m = ¬ (m.unknowns ≡ 0) → (needed m.unknowns ≤ length m.cells) × AllByRecursion Passes (take (needed m.unknowns) m.cells)
 
   -- the spare cells of a sheet that has unknowns hold zero
   abbrev pub SpareZero : Model C → Type 0
@@ -65,14 +65,14 @@ module _ {N C : Type 0} (a : Arithmetic N C) where
 
   -- word i is the first that the kind does not admit
   abbrev pub FirstRefused : List ℤ → ℕ → Type 0
-  FirstRefused ws i = (i < length ws) × (¬ Admitted a (slice_index_or ws i (pos 0))) × All (Admitted a) (take i ws)
+  FirstRefused ws i = (i < length ws) × (¬ Admitted a (slice_index_or ws i (pos 0))) × AllByRecursion (Admitted a) (take i ws)
 
   -- a posting of the words ws to the sheet m is refused in exactly these cases
   pub record RefusalsExact (m : Model C) (ws : List ℤ) (r : Result Verdict SheetFault) : Type 0 where
     pub no_sheet : (r ≡ Err NoSheet) ↔ (stands m ≡ false)
     pub count : (r ≡ Err Count) ↔ ((stands m ≡ true) × (¬ (length ws ≡ m.unknowns + 1)))
     pub not_admitted : (i : ℕ) → (r ≡ Err (Number (NotAdmitted i))) ↔ ((stands m ≡ true) × (length ws ≡ m.unknowns + 1) × FirstRefused ws i)
-    pub cannot_store : (r ≡ Err Overflow) ↔ ((stands m ≡ true) × (length ws ≡ m.unknowns + 1) × All (Admitted a) ws × (outcome_of a m ws ≡ overflow))
+    pub cannot_store : (r ≡ Err Overflow) ↔ ((stands m ≡ true) × (length ws ≡ m.unknowns + 1) × AllByRecursion (Admitted a) ws × (outcome_of a m ws ≡ overflow))
 
   -- the words ws, posted to the sheet m, are answered r and leave the sheet `after`:
   -- whatever equations m stands for, `after` stands for those then in force, and the answer says which plans meet the posted one

@@ -1,7 +1,7 @@
 // A sheet over lent cells, and its calls.
 ghost use Rattle.std.specs.Prelude.{◌≡◌, [], length, IfNone, None, FitsSigned};
 ghost use Rattle.std.specs.Int.{w32};
-ghost use Rattle.std.specs.List.{AllByRecursion as All};
+ghost use Rattle.std.specs.List.{AllByRecursion};
 ghost use Rattle.sheets.specs.Clearing.{clear_answer, clear_left};
 ghost use Rattle.sheets.specs.Law.{StandsFor, Sound, SpareZero, RefusalsExact, PostLaw, ClearLaw, PickLaw};
 ghost use Rattle.sheets.specs.Picking.{pick_refusal_lem as pick_refusal_of, pick_answer, pick_left};
@@ -121,7 +121,7 @@ impl<K: Kind> Sheet<'_, K> {
 
     // Why words cannot be posted, before any cell is touched.
     fn post_refusal(&self, words: &[i32]) -> Option<SheetFault>
-        ensures fit { IfNone result (All (FitsSigned w32) words.now) }
+        ensures fit { IfNone result (AllByRecursion (FitsSigned w32) words.now) }
         ensures value { result ≡ post_refusal_of K.Kind.arith (model self.now) words.now }
     {
         if !self.stands() {
@@ -184,7 +184,7 @@ impl<K: Kind> Sheet<'_, K> {
 
     // Why no plan can be picked, before any sum is made: `len` words are lent for it.
     fn pick_refusal(&self, choice: &[i32], len: usize) -> Option<SheetFault>
-        ensures fit { IfNone result (All (FitsSigned w32) choice.now) }
+        ensures fit { IfNone result (AllByRecursion (FitsSigned w32) choice.now) }
         ensures value { result ≡ pick_refusal_of K.Kind.arith (model self.now) choice.now len }
     {
         if !self.stands() {

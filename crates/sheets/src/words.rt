@@ -1,7 +1,7 @@
 // The words of a call, as numbers.
 ghost use Rattle.std.specs.Prelude.{◌≡◌, ◌<◌, length, pos, IfSome, IfNone, FitsSigned, slice_index_or};
 ghost use Rattle.std.specs.Int.{w32};
-ghost use Rattle.std.specs.List.{AllByRecursion as All};
+ghost use Rattle.std.specs.List.{AllByRecursion};
 ghost use Rattle.lines.specs.Hex.{find};
 ghost use Rattle.sheets.specs.Words.{number_of, is_refused};
 
@@ -31,7 +31,7 @@ fn refused<K: Kind>(words: &[i32], i: usize) -> bool
 pub(crate) fn first_refused<K: Kind>(words: &[i32]) -> Option<usize>
     ensures value { result ≡ find (is_refused K.Kind.arith) words.now }
     ensures bound { IfSome result (λ i. i < length words.now) }
-    ensures fit { IfNone result (All (FitsSigned w32) words.now) }
+    ensures fit { IfNone result (AllByRecursion (FitsSigned w32) words.now) }
 {
     for i in 0..words.len() {
         if refused::<K>(words, i) {

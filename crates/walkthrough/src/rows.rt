@@ -40,7 +40,11 @@ fn before(i: usize) -> &'static str {
 }
 
 // The sheet that lies in the cells.
-pub fn sheet<K: Kind, W: Write>(out: &mut W, outline: Outline, cells: &[K::Cell]) -> io::Result<()> {
+pub fn sheet<K: Kind, W: Write>(
+    out: &mut W,
+    outline: Outline,
+    cells: &[K::Cell],
+) -> io::Result<()> {
     let unknowns = outline.unknowns();
     if unknowns == 0 {
         return writeln!(out, "    sheet: no unknowns");

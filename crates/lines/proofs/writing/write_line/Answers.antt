@@ -1,5 +1,5 @@
 use Rattle.std.proofs.Common.{◌≡◌, ℕ, ◌+◌, [], length, get_or, take, pos, None, sym, ap, ◌∙◌, subst, arith, w32, SFits, rules}
-use Rattle.std.specs.List.{AllByRecursion as All}
+use Rattle.std.specs.List.{AllByRecursion}
 use Rattle.std.proofs.ByRecursion.{All-more}
 use Rattle.lines.proofs.Returning.{reads_back}
 use Rattle.std.proofs.lemmas.List.{take_all}
@@ -33,7 +33,7 @@ returns c =
     let t = take_all c.loop-w.w-index ws c.loop-w-test.false in
     let p : model c.loop-w.page ≡ puts (began m frame (length ws)) ws
     = c.loop-w.invariant.1 ∙ ap (puts (model c.begin.new.self)) t ∙ ap (λ (x : Model). puts x ws) m1.1 in
-    let f : All (SFits w32) ws = subst (All (SFits w32)) t c.loop-w.invariant.5 in
+    let f : AllByRecursion (SFits w32) ws = subst (AllByRecursion (SFits w32)) t c.loop-w.invariant.5 in
     record {
       held = c.close.ensures.held ∙ c.loop-w.invariant.0 ∙ c.begin.ensures.held;
       cases = (m1.0, c.in-Ok-close.ensures.cases.1 ∙ ap closed p ∙ line_stands m frame ws b.0);

@@ -1,5 +1,5 @@
 use Rattle.std.proofs.Common.{◌≡◌, true, length, take, w32, SFits}
-use Rattle.std.specs.List.{AllByRecursion as All}
+use Rattle.std.specs.List.{AllByRecursion}
 use Rattle.lines.specs.Page.{model}
 use Rattle.lines.proofs.Filling.{puts}
 use Rattle.lines.proofs.writing.write_line.Given as goal
@@ -11,4 +11,4 @@ invariant-loop-w l =
     × (l.page.begun ≡ true)
     × (l.page.put ≡ l.w-index)
     × (l.page.room ≡ length l.words)
-    × All (SFits w32) (take l.w-index l.words)
+    × AllByRecursion (SFits w32) (take l.w-index l.words)

@@ -1,5 +1,5 @@
 use Rattle.std.proofs.Common.{pos, sym, refl, ◌∙◌, subst, arith, w32, SFits}
-use Rattle.std.specs.List.{AllByRecursion as All}
+use Rattle.std.specs.List.{AllByRecursion}
 use Rattle.std.proofs.ByRecursion.{All-more}
 use Rattle.std.proofs.lemmas.List.{take_all}
 use Rattle.lines.proofs.Finding.{find_here, find_on, find_end}
@@ -21,4 +21,4 @@ loop-i-preserved g c = (
 )
 
 pub returns : goal.returns
-returns g c = record { value = sym (find_end (is_refused g.K.Kind.arith) c.args.words.now c.loop-i.i (omega arith)) ∙ c.loop-i.invariant.0; bound = tt; fit = subst (All (SFits w32)) (take_all c.loop-i.i c.args.words.now (omega arith)) c.loop-i.invariant.1 }
+returns g c = record { value = sym (find_end (is_refused g.K.Kind.arith) c.args.words.now c.loop-i.i (omega arith)) ∙ c.loop-i.invariant.0; bound = tt; fit = subst (AllByRecursion (SFits w32)) (take_all c.loop-i.i c.args.words.now (omega arith)) c.loop-i.invariant.1 }

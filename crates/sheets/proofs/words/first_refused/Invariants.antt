@@ -1,5 +1,5 @@
 use Rattle.std.proofs.Common.{◌≡◌, take, drop, w32, SFits}
-use Rattle.std.specs.List.{AllByRecursion as All}
+use Rattle.std.specs.List.{AllByRecursion}
 use Rattle.lines.specs.Hex.{find_from, find}
 use Rattle.sheets.specs.Words.{is_refused}
 use Rattle.sheets.proofs.words.first_refused.Given as goal
@@ -7,4 +7,4 @@ use Rattle.sheets.proofs.words.first_refused.Given as goal
 abbrev pub invariant-loop-i : goal.invariant-loop-i
 invariant-loop-i g l =
     let test = is_refused g.K.Kind.arith in
-    (find_from test l.i (drop l.i l.words) ≡ find test l.words) × All (SFits w32) (take l.i l.words)
+    (find_from test l.i (drop l.i l.words) ≡ find test l.words) × AllByRecursion (SFits w32) (take l.i l.words)
