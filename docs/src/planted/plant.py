@@ -1,4 +1,5 @@
 """Plants bugs in a copy of the repository: plant.py BUGS COPY [CRATE...]. See run."""
+import os
 import re
 import subprocess
 import sys
@@ -14,31 +15,44 @@ def bugs(path):
             yield crate, name, file, old, new
 
 
+def refusal(folder):
+    """Where the check refuses the crate, or how its program's output differs; None where nothing is wrong."""
+    run = subprocess.run(["rt", "check"], cwd=folder, capture_output=True, text=True)
+    if run.returncode:
+        out = run.stdout + run.stderr
+        told = [line for line in out.split("\n") if re.match(r"(note: )?\S+:\d+:\d+: ", line) and "error" in line or "it is not proved" in line or "found no proof" in line]
+        where = re.search(r"(\S+?:\d+:\d+)", told[0]) if told else None
+        return where.group(1) if where else "see the log"
+    expected = os.path.join(folder, "stdout")
+    if not os.path.exists(expected):
+        return None
+    with open(os.path.join(folder, "stdin") if os.path.exists(os.path.join(folder, "stdin")) else os.devnull, "rb") as given:
+        run = subprocess.run(["rt", "run"], cwd=folder, stdin=given, capture_output=True)
+    if run.returncode or run.stdout != open(expected, "rb").read():
+        return "the program writes something else"
+    return None
+
+
 def main():
     path, copy, wanted = sys.argv[1], sys.argv[2], sys.argv[3:]
     survived = tried = 0
     for crate, name, file, old, new in bugs(path):
         if wanted and crate not in wanted:
             continue
-        target = f"{copy}/crates/{crate}/{file}"
+        folder = f"{copy}/crates/{crate}"
+        target = f"{folder}/{file}"
         text = open(target).read()
         if text.count(old) != 1:
             print(f"{crate}: {name}: the bug does not fit its file")
             survived += 1
             continue
         open(target, "w").write(text.replace(old, new))
-        run = subprocess.run(["rt", "check", crate], cwd=copy, capture_output=True, text=True)
+        why = refusal(folder)
         open(target, "w").write(text)
-        out = run.stdout + run.stderr
-        told = "\n".join(line for line in out.split("\n") if ": note:" not in line)
-        where = re.search(r"(crates/\S+?:\d+:\d+)", told)
-        fault = re.search(r"rt: (\w+) (ran|wrote)[^\n]*", out) if run.returncode and "NOT PROVED" not in out else None
         tried += 1
-        if run.returncode == 0:
+        if why is None:
             survived += 1
-            print(f"{crate}: {name}: SURVIVED")
-        else:
-            print(f"{crate}: {name}: refused, {fault.group(0) if fault else where.group(1) if where else 'see the log'}", flush=True)
+        print(f"{crate}: {name}: {'SURVIVED' if why is None else f'refused, {why}'}", flush=True)
     print(f"{tried} planted, {survived} survived")
     sys.exit(survived != 0)
 
