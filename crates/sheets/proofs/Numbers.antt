@@ -1,5 +1,5 @@
 -- The numbers in cells, by place.
-use Rattle.std.proofs.Common.{◌≡◌, ℕ, ◌+◌, ◌<◌, ◌≤◌, List, [], ◌∷◌, length, get_or, drop, Some, Option, sym, ap, ◌∙◌, arith}
+use Rattle.std.proofs.Common.{◌≡◌, ℕ, ◌+◌, ◌<◌, ◌≤◌, List, ◌∷◌, length, get_or, drop, Some, Option, sym, ap, ◌∙◌, arith}
 use Rattle.std.proofs.lemmas.List.{length-take, length-drop, length-map, get_or-map, get_or-take, get_or-drop, drop_more, drop_all}
 use Rattle.kinds.specs.Kind.{Arithmetic}
 use Rattle.plans.specs.Posting.{then, running}

@@ -1,5 +1,5 @@
 -- Turns of the rounds, on the columns in cells.
-use Rattle.std.proofs.Common.{◌≡◌, ℕ, zero, suc, ◌+◌, ◌<◌, Bool, true, false, cond, eqb, ltb, ◌≢◌, List, [], length, Some, None, Ok, Option, sym, refl, ap, ◌∙◌, arith}
+use Rattle.std.proofs.Common.{◌≡◌, ℕ, zero, suc, ◌+◌, ◌<◌, Bool, true, false, cond, eqb, ltb, ◌≢◌, List, length, Some, None, Ok, Option, sym, refl, ap, ◌∙◌, arith}
 use Rattle.std.proofs.lemmas.Bool.{cond-true, cond-false}
 use Rattle.kinds.specs.Kind.{Arithmetic, Laws}
 use Rattle.plans.specs.Posting.{Column, Work, stop, again, fail, larger, largest_of, size_at, pivot_of, runner_up_of, round, turned, turn_by, turn_at, turn, on, rounds, total_size}

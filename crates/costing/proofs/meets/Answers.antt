@@ -1,4 +1,4 @@
-use Rattle.std.proofs.Common.{◌≡◌, ℕ, ◌-◌, List, [], take, ℤ, sym, ap, ◌∙◌, arith}
+use Rattle.std.proofs.Common.{◌≡◌, ℕ, ◌-◌, List, take, ℤ, sym, ap, ◌∙◌, arith}
 use Rattle.lines.specs.Hex.{find}
 use Rattle.lines.specs.Line.{numbers, is_lowest}
 use Rattle.costing.specs.declared.Refusal.TheVariants.{Equation as InEquation, Plan as InPlan}

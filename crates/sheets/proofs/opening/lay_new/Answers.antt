@@ -1,4 +1,3 @@
-use Rattle.std.proofs.Common.{arith}
 use Rattle.sheets.proofs.Fresh.{new_laid}
 use Rattle.sheets.proofs.opening.lay_new.Goals as goal
 

@@ -1,4 +1,3 @@
-use Rattle.std.proofs.Common.{arith}
 use Rattle.sheets.proofs.Fresh.{unit_laid}
 use Rattle.sheets.proofs.opening.lay_unit.Goals as goal
 

@@ -1,4 +1,4 @@
-use Rattle.std.proofs.Common.{Bool, Some, Ok, Err, ap, ◌∙◌, subst, arith}
+use Rattle.std.proofs.Common.{Bool, Some, Ok, Err, ap, ◌∙◌, subst}
 use Rattle.std.proofs.lemmas.Result.{err_from_is_err_and}
 use Rattle.plans.specs.Posting.{finish}
 use Rattle.sheets.specs.Work.{work_at, Finished}

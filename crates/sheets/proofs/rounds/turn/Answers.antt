@@ -1,4 +1,4 @@
-use Rattle.std.proofs.Common.{eqb, sym, refl, ap, ◌∙◌, arith}
+use Rattle.std.proofs.Common.{eqb, sym, refl, ap, ◌∙◌}
 use Rattle.std.proofs.lemmas.Result.{err_from_is_err_and}
 use Rattle.plans.specs.Posting.{turned}
 use Rattle.sheets.proofs.Limits.{within_same}
