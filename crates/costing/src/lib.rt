@@ -57,10 +57,10 @@ fn whole(word: i32) -> Whole
 
 // The sum of coefficient × entry less the right side, as a running sum in the whole kind; None where one leaves it.
 fn balance(right: i32, coefficients: &[i32], entries: &[i32]) -> Option<Whole>
-    requires coefficients_len { length coefficients.now ≡ length entries.now }
-    requires right_value { is_lowest right ≡ false }
-    requires coefficients_value { find is_lowest coefficients.now ≡ None }
-    requires entries_value { find is_lowest entries.now ≡ None }
+    requires same_length { length coefficients.now ≡ length entries.now }
+    requires right_stored { is_lowest right ≡ false }
+    requires coefficients_stored { find is_lowest coefficients.now ≡ None }
+    requires entries_stored { find is_lowest entries.now ≡ None }
     ensures { result ≡ running (fitted (neg_ℤ right)) coefficients.now entries.now }
 {
     let mut sum = whole(right).negative();
@@ -72,8 +72,8 @@ fn balance(right: i32, coefficients: &[i32], entries: &[i32]) -> Option<Whole>
 
 // Whether the plan meets the equation, by the numbers of their lines.
 fn judge(equation: &[i32], plan: &[i32]) -> Result<bool, Refusal>
-    requires equation_value { find is_lowest equation.now ≡ None }
-    requires plan_value { find is_lowest plan.now ≡ None }
+    requires equation_stored { find is_lowest equation.now ≡ None }
+    requires plan_stored { find is_lowest plan.now ≡ None }
     ensures { result ≡ judgement equation.now plan.now }
 {
     let n = plan.len();

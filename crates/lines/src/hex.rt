@@ -78,7 +78,7 @@ pub fn word_digits(word: i32) -> [u8; 8]
 
 // The word that eight digits write.
 pub(crate) fn word(digits: &[u8]) -> i32
-    requires digits_len { length digits.now ≡ 8 }
+    requires eight { length digits.now ≡ 8 }
     requires hex { Hex digits.now }
     ensures { result ≡ word_of digits.now }
 {

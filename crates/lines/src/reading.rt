@@ -19,7 +19,7 @@ pub struct Line {
 
 // The byte that two digits write.
 fn byte_at(bytes: &[u8], at: usize) -> u8
-    requires at_in_bounds { at + 2 ≤ length bytes.now }
+    requires within { at + 2 ≤ length bytes.now }
     requires hex { Hex bytes.now }
     ensures { result ≡ number_of (take 2 (drop at bytes.now)) }
 {
@@ -28,8 +28,8 @@ fn byte_at(bytes: &[u8], at: usize) -> u8
 
 // Number k of a line.
 fn word_at(bytes: &[u8], k: usize) -> i32
-    requires k_bound { k < 25 }
-    requires k_in_bounds { 12 + 8 * k ≤ length bytes.now }
+    requires few { k < 25 }
+    requires within { 12 + 8 * k ≤ length bytes.now }
     requires hex { Hex bytes.now }
     ensures { result ≡ word_of (take 8 (drop (4 + 8 * k) bytes.now)) }
 {
@@ -39,8 +39,8 @@ fn word_at(bytes: &[u8], k: usize) -> i32
 
 // The index of the first of a line's numbers that is -2147483648.
 fn first_lowest(bytes: &[u8], count: usize) -> Option<usize>
-    requires count_bound { count ≤ 25 }
-    requires bytes_len { length bytes.now ≡ 4 + 8 * count }
+    requires few { count ≤ 25 }
+    requires full { length bytes.now ≡ 4 + 8 * count }
     requires hex { Hex bytes.now }
     ensures value { result ≡ find is_lowest (words_of count (drop 4 bytes.now)) }
     ensures bound { IfSome result (λ k. k < count) }
@@ -55,10 +55,10 @@ fn first_lowest(bytes: &[u8], count: usize) -> Option<usize>
 
 // The numbers of a line, into the first words.
 fn unpack(bytes: &[u8], count: usize, words: &mut [i32])
-    requires count_bound { count ≤ 25 }
-    requires bytes_len { length bytes.now ≡ 4 + 8 * count }
+    requires few { count ≤ 25 }
+    requires full { length bytes.now ≡ 4 + 8 * count }
     requires hex { Hex bytes.now }
-    requires count_in_bounds { count ≤ length words.old }
+    requires room { count ≤ length words.old }
     ensures { words.new ≡ words_of count (drop 4 bytes.now) ++ drop count words.old }
 {
     for k in 0..count {

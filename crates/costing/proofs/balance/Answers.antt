@@ -13,14 +13,14 @@ whole-requires-in-loop-i c =
     let cs = c.args.coefficients.now in
     let i = c.loop-i.i in
     let f : SFits w32 (get_or cs i (pos 0)) = search rules in
-    ap is_lowest (to_z-of_z w32 (get_or cs i (pos 0)) f) ∙ All-get_or (λ w. is_lowest w ≡ false) cs i (pos 0) (omega arith) (find_none is_lowest 0 cs c.requires.coefficients_value)
+    ap is_lowest (to_z-of_z w32 (get_or cs i (pos 0)) f) ∙ All-get_or (λ w. is_lowest w ≡ false) cs i (pos 0) (omega arith) (find_none is_lowest 0 cs c.requires.coefficients_stored)
 
 pub whole-requires-in-loop-i-2 : goal.whole-requires-in-loop-i-2
 whole-requires-in-loop-i-2 c =
     let xs = c.args.entries.now in
     let i = c.loop-i.i in
     let f : SFits w32 (get_or xs i (pos 0)) = search rules in
-    ap is_lowest (to_z-of_z w32 (get_or xs i (pos 0)) f) ∙ All-get_or (λ w. is_lowest w ≡ false) xs i (pos 0) (omega arith) (find_none is_lowest 0 xs c.requires.entries_value)
+    ap is_lowest (to_z-of_z w32 (get_or xs i (pos 0)) f) ∙ All-get_or (λ w. is_lowest w ≡ false) xs i (pos 0) (omega arith) (find_none is_lowest 0 xs c.requires.entries_stored)
 
 pub returns-in_err-sum : goal.returns-in_err-sum
 returns-in_err-sum c =

@@ -16,11 +16,11 @@ balance-requires c =
     let n = length plan in
     let k : n - 0 ≡ n = omega arith in
     let f : SFits w32 (get_or ws n (pos 0)) = search rules in
-    let h = find_none is_lowest 0 ws c.requires.equation_value in (record {
-      coefficients_len = ap (λ (m : ℕ). length (take m ws)) k ∙ length-take-le n ws (omega arith);
-      right_value = ap is_lowest (to_z-of_z w32 (get_or ws n (pos 0)) f) ∙ All-get_or (λ w. is_lowest w ≡ false) ws n (pos 0) (omega arith) h;
-      coefficients_value = none_find is_lowest 0 (take (n - 0) ws) (All-take (λ w. is_lowest w ≡ false) (n - 0) ws h);
-      entries_value = c.requires.plan_value;
+    let h = find_none is_lowest 0 ws c.requires.equation_stored in (record {
+      same_length = ap (λ (m : ℕ). length (take m ws)) k ∙ length-take-le n ws (omega arith);
+      right_stored = ap is_lowest (to_z-of_z w32 (get_or ws n (pos 0)) f) ∙ All-get_or (λ w. is_lowest w ≡ false) ws n (pos 0) (omega arith) h;
+      coefficients_stored = none_find is_lowest 0 (take (n - 0) ws) (All-take (λ w. is_lowest w ≡ false) (n - 0) ws h);
+      entries_stored = c.requires.plan_stored;
     })
 
 pub returns-in-Some : goal.returns-in-Some

@@ -13,8 +13,8 @@ pub judge-requires : goal.judge-requires
 judge-requires c =
     let e = c.in-Ok.ensures.cases in
     let p = c.in-Ok-numbers_of.ensures.cases in (record {
-      equation_value = ap (find is_lowest) (from_start c.in-Ok.m c.numbers_of.new.words ∙ e.2) ∙ e.3;
-      plan_value = ap (find is_lowest) (from_start c.in-Ok-numbers_of.n c.numbers_of-2.new.words ∙ p.2) ∙ p.3;
+      equation_stored = ap (find is_lowest) (from_start c.in-Ok.m c.numbers_of.new.words ∙ e.2) ∙ e.3;
+      plan_stored = ap (find is_lowest) (from_start c.in-Ok-numbers_of.n c.numbers_of-2.new.words ∙ p.2) ∙ p.3;
     })
 
 pub returns : goal.returns

@@ -18,7 +18,7 @@ fn reduce(n: u32) -> Weekday
 // The fifth power, which is the inverse modulo 7 of each number but 0.
 fn fifth(d: Weekday) -> u32
     ensures value { result ≡ d.value ^ 5 }
-    ensures upper_bound { result < 7777 }
+    ensures below { result < 7777 }
 {
     u32::from(d.value).pow(5)
 }

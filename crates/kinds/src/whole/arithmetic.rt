@@ -37,7 +37,7 @@ fn exact(c: Whole, q: Whole, d: Whole) -> i64
 fn rounded_down(c: Whole, d: Whole) -> i32
     requires { d.value ≢ pos 0 }
     ensures value { result ≡ floor c.value d.value }
-    ensures result_bound { unsigned_abs result ≤ 2147483647 }
+    ensures held { unsigned_abs result ≤ 2147483647 }
 {
     if d.value < 0 {
         return (-c.value).div_euclid(-d.value);

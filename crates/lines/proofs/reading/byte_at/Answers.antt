@@ -17,5 +17,5 @@ overflow_add-result c =
 
 pub returns : goal.returns
 returns c =
-    let e = byte_at c.args.bytes.now c.args.at c.requires.at_in_bounds in
+    let e = byte_at c.args.bytes.now c.args.at c.requires.within in
     omega (arith, e, c.value.ensures, c.value-2.ensures)

@@ -10,10 +10,10 @@ overflow_cast-result c =
     omega (arith, b, c.if-bytes-gt204.false)
 
 pub byte_at-count-requires : goal.byte_at-count-requires
-byte_at-count-requires c = (record { at_in_bounds = omega arith; hex = hex_from_find c.args.bytes.now (sym c.in_default.ensures) })
+byte_at-count-requires c = (record { within = omega arith; hex = hex_from_find c.args.bytes.now (sym c.in_default.ensures) })
 
 pub byte_at-frame-requires : goal.byte_at-frame-requires
-byte_at-frame-requires c = (record { at_in_bounds = omega arith; hex = hex_from_find c.args.bytes.now (sym c.in_default.ensures) })
+byte_at-frame-requires c = (record { within = omega arith; hex = hex_from_find c.args.bytes.now (sym c.in_default.ensures) })
 
 pub first_lowest-requires : goal.first_lowest-requires
-first_lowest-requires c = (record { count_bound = omega (arith, c.if-bytes-gt204.false); bytes_len = c.if-bytes-count.false; hex = hex_from_find c.args.bytes.now (sym c.in_default.ensures) })
+first_lowest-requires c = (record { few = omega (arith, c.if-bytes-gt204.false); full = c.if-bytes-count.false; hex = hex_from_find c.args.bytes.now (sym c.in_default.ensures) })

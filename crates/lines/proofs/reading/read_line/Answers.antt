@@ -27,7 +27,7 @@ unpack-requires c =
     let n = w.sized in
     let s = w.short in
     let m = c.if-words-lt-MOST_NUMBERS.false in
-    (record { count_bound = omega arith; bytes_len = omega arith; hex = w.hex; count_in_bounds = omega arith })
+    (record { few = omega arith; full = omega arith; hex = w.hex; room = omega arith })
 
 pub returns : goal.returns
 returns c =

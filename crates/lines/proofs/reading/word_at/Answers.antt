@@ -9,7 +9,7 @@ pub word-requires : goal.word-requires
 word-requires c =
     let at : ℕ = 4 + 8 * c.args.k in
     let d = All-drop (λ x. hex_value x < 16) at c.args.bytes.now c.requires.hex in
-    (record { digits_len = simp (length-take, length-drop) (omega arith); hex = All-take (λ x. hex_value x < 16) ((at + 8) - at) (drop at c.args.bytes.now) d })
+    (record { eight = simp (length-take, length-drop) (omega arith); hex = All-take (λ x. hex_value x < 16) ((at + 8) - at) (drop at c.args.bytes.now) d })
 
 pub returns : goal.returns
 returns c =
