@@ -4,7 +4,7 @@ words in snake case, types, relations and modules in camel case, a prime as an a
 
 Run at the repository's root. Names come from what specs/ and proofs/ declare: signatures, record fields, constructors, and
 what a proof binds by 'let' or as an argument. Names that Rattle makes (goals, invariants, steps of a function) and names of
-its library keep theirs. Only specs/, proofs/ and the ghost text of src/ are rewritten: strings, comments' code in docs, inputs,
+its library keep theirs. Only specs/, proofs/ and the ghost text of src/ are rewritten: code, strings, documents, inputs,
 outputs and exported names are left alone.
 """
 import pathlib
@@ -13,10 +13,9 @@ import sys
 
 IDENT = r"[^\s(){};,.«»⟦⟧\[\]|λ\"@]+"
 TOKEN = re.compile(IDENT)
-LOCAL = re.compile(r"\blet ([a-zA-Z][^\s:=]*)\s*[:=]")
-# Names of Rattle's own making, which a proof file answers or cites.
 # Words of prose, which a comment keeps.
 PROSE = {"add-product", "runner-up", "give-up", "one-times", "no-divisors"}
+# Names of Rattle's own making, which a proof file answers or cites.
 MADE = re.compile(r"^(returns|invariant-|decreases-|ghosts?-|loop-|overflow_|bounds-|slice_bounds-|nonzero_|prove-|invariant_of-)")
 
 
