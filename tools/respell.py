@@ -133,7 +133,7 @@ def main():
         return
 
     def turn(text):
-        # A comment's prose keeps its words: only the code of a line is turned.
+        # Definitions that a comment names are turned too, but not the words of its prose.
         def line(text):
             code, dash, comment = re.match(r"^((?:(?!--).)*)(--)?(.*)$", text).groups()
             return TOKEN.sub(lambda m: names.get(m.group(0), m.group(0)), code) + (dash or "") + TOKEN.sub(lambda m: names.get(m.group(0), m.group(0)) if m.group(0) not in PROSE else m.group(0), comment)

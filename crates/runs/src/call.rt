@@ -39,10 +39,10 @@ impl Answer {
 }
 
 // The answer of a posting.
-pub(crate) fn verdict_answer(res: Result<Verdict, SheetFault>) -> Answer
-    ensures { result ≡ verdict_answer_lem res }
+pub(crate) fn verdict_answer(outcome: Result<Verdict, SheetFault>) -> Answer
+    ensures { result ≡ verdict_answer_lem outcome }
 {
-    match res {
+    match outcome {
         Ok(Verdict::Taken) => Answer::Done,
         Ok(Verdict::Implied) => Answer::Implied,
         Err(fault) => Answer::Refused(fault),
@@ -50,10 +50,10 @@ pub(crate) fn verdict_answer(res: Result<Verdict, SheetFault>) -> Answer
 }
 
 // The answer of any other call.
-pub(crate) fn plain_answer(res: Result<(), SheetFault>) -> Answer
-    ensures { result ≡ plain_answer_lem res }
+pub(crate) fn plain_answer(outcome: Result<(), SheetFault>) -> Answer
+    ensures { result ≡ plain_answer_lem outcome }
 {
-    match res {
+    match outcome {
         Ok(()) => Answer::Done,
         Err(fault) => Answer::Refused(fault),
     }

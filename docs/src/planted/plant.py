@@ -19,15 +19,13 @@ def refusal(folder):
     """Where the check refuses the crate, or how its program's output differs; None where nothing is wrong."""
     run = subprocess.run(["rt", "check"], cwd=folder, capture_output=True, text=True)
     if run.returncode:
-        out = run.stdout + run.stderr
-        told = [line for line in out.split("\n") if re.match(r"(note: )?\S+:\d+:\d+: ", line) and "error" in line or "it is not proved" in line or "found no proof" in line]
-        where = re.search(r"(\S+?:\d+:\d+)", told[0]) if told else None
+        where = re.search(r"^(?:note: )?(\S+:\d+:\d+): (?:error|it is not proved|`search`)", run.stdout + run.stderr, re.M)
         return where.group(1) if where else "see the log"
-    expected = os.path.join(folder, "stdout")
+    given, expected = f"{folder}/stdin", f"{folder}/stdout"
     if not os.path.exists(expected):
         return None
-    with open(os.path.join(folder, "stdin") if os.path.exists(os.path.join(folder, "stdin")) else os.devnull, "rb") as given:
-        run = subprocess.run(["rt", "run"], cwd=folder, stdin=given, capture_output=True)
+    with open(given if os.path.exists(given) else os.devnull, "rb") as lines:
+        run = subprocess.run(["rt", "run"], cwd=folder, stdin=lines, capture_output=True)
     if run.returncode or run.stdout != open(expected, "rb").read():
         return "the program writes something else"
     return None
