@@ -6,8 +6,10 @@ ghost use Rattle.std.specs.Prelude.{◌≡◌};
 ghost use Rattle.faults.specs.Faults.{number_fault, line_fault, line_place, page_fault, sheet_fault, sheet_place};
 ghost use Rattle.faults.specs.declared.SheetFault.TheVariants.{Line, Page};
 
+mod words;
+
 // What is wrong with one number.
-#[derive(Clone, Copy)]
+#[derive(Clone, Copy, Debug, PartialEq, Eq)]
 pub enum NumberFault {
     // It is -2147483648, the digits 80000000, which no kind holds.
     Lowest,
@@ -22,7 +24,7 @@ pub enum NumberFault {
 }
 
 // What is wrong with a line.
-#[derive(Clone, Copy)]
+#[derive(Clone, Copy, Debug, PartialEq, Eq)]
 pub enum LineFault {
     // The words lent for its numbers are under 25.
     FewWords,
@@ -41,7 +43,7 @@ pub enum LineFault {
 }
 
 // Why a page refuses.
-#[derive(Clone, Copy)]
+#[derive(Clone, Copy, Debug, PartialEq, Eq)]
 pub enum PageFault {
     // The rest of the page cannot take what is to be written.
     NoRoom,
@@ -54,7 +56,7 @@ pub enum PageFault {
 }
 
 // Why a call on a sheet refuses.
-#[derive(Clone, Copy)]
+#[derive(Clone, Copy, Debug, PartialEq, Eq)]
 pub enum SheetFault {
     Page(PageFault),
     Line(LineFault),
@@ -72,6 +74,7 @@ pub enum SheetFault {
     Contradicted,
 }
 
+// A fault has a number, as lines carry it; several have the same, and that is no conversion back and forth.
 impl NumberFault {
     pub fn number(self) -> u8
         ensures { result ≡ number_fault self }
@@ -101,7 +104,7 @@ impl LineFault {
         }
     }
 
-    // The byte of the line, counted from 0, or -1.
+    // The byte of the line, counted from 0, or -1. Kept as one number: the format writes a place so, -1 for none.
     pub fn place(self) -> i32
         ensures { result ≡ line_place self }
     {
@@ -141,7 +144,7 @@ impl SheetFault {
         }
     }
 
-    // The byte of the line at fault, or -1 where no line is.
+    // The byte of the line at fault, or -1 where no line is: a number for the same reason.
     pub fn place(self) -> i32
         ensures { result ≡ sheet_place self }
     {

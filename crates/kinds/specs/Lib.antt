@@ -5,5 +5,4 @@ pub mod Whole
 pub mod Weekdays
 pub mod Sames
 pub mod Ring
-pub mod Tables
 pub mod Wholes

@@ -5,12 +5,15 @@ use mathlib.Core.HLevel.{is_prop→PathP}
 use Rattle.std.proofs.Math.Bridge.{le_prop}
 use Rattle.std.proofs.Math.IntN.{+ℤ_invr}
 use Rattle.std.proofs.lemmas.Int.{ints}
-use Rattle.std.proofs.lemmas.Bool.{eqb-true, eqb-false, eq-eqb, ne_eqb, lt-ltb, or_cases, cases_eq, cond-true, cond-false, not-true, ltb-true, both_ways}
+use Rattle.std.proofs.lemmas.Bool.{agree_below, agree_below_at, eqb-true, eqb-false, eq-eqb, ne_eqb, lt-ltb, or_cases, cases_eq, cond-true, cond-false, not-true, ltb-true, both_ways}
 use Rattle.kinds.specs.declared.weekday.Weekday.{Weekday}
 use Rattle.kinds.specs.Kind.{Laws, Same}
 use Rattle.kinds.specs.Weekday.{day, day_of, day_at, size_of, weekdays}
 use Rattle.kinds.specs.Sames.{same_eq, same_sym, same_trans, same_add, same_neg, same_mul}
-use Rattle.kinds.specs.Tables.{below, below_2}
+
+-- a test that antt computes at every pair of numbers below n, and what it shows of each
+below_2 : (f : ℕ → ℕ → Bool) (n : ℕ) → agree_below (λ a. agree_below (f a) (λ _. true) n) (λ _. true) n ≡ true → (a b : ℕ) → a < n → b < n → f a b ≡ true
+below_2 f n t a b h k = agree_below_at (f a) (λ _. true) n b (agree_below_at (λ a. agree_below (f a) (λ _. true) n) (λ _. true) n a t h) k
 
 -- two days of one value are one
 pub same_day : {a b : Weekday} → a.value ≡ b.value → a ≡ b
@@ -62,11 +65,11 @@ read_value k n e = by (nat_lt k 7) refl e
   where
     by : (t : Bool) → nat_lt k 7 ≡ t → cond t (Some (day k)) None ≡ Some n → n.value ≡ k
     by true p q = let d : day k ≡ n = cc in ap (λ (x : Weekday). x.value) (sym d) ∙ mod-eq_of_lt (ltb-true k 7 p)
-    by false p q = let z : ◌≡◌ {A = ℕ} 0 1 = cc in absurd (omega arith)
+    by false p q = absurd cc
 
 read_same : (w : ℤ) (n : Weekday) → day_at w ≡ Some n → Same 7 (pos n.value) w
 read_same (pos k) n e = same_eq (ap pos (read_value k n e))
-read_same (negsuc k) n e = let z : ◌≡◌ {A = ℕ} 0 1 = cc in absurd (omega arith)
+read_same (negsuc k) n e = absurd cc
 
 size_some : (v : ℕ) → (v ≢ 0) → size_of v ≡ 1
 size_some v h = cond-false (v == 0) 0 1 (ne_eqb v 0 h)
@@ -82,7 +85,7 @@ quotient_value : (c d q : Weekday) → weekdays.quotient c d ≡ Some q → (d.v
 quotient_value c d q e = by (d.value == 0) refl e
   where
     by : (t : Bool) → (d.value == 0) ≡ t → cond t None (Some (day (c.value * d.value ^ 5))) ≡ Some q → (d.value ≢ 0) × (q ≡ day (c.value * d.value ^ 5))
-    by true p h = let z : ◌≡◌ {A = ℕ} 0 1 = cc in absurd (omega arith)
+    by true p h = absurd cc
     by false p h = (eqb-false d.value 0 p, cc)
 
 -- nothing is left, over the whole table
@@ -101,7 +104,7 @@ unit_inverted n = by (n.value == 0) refl
     by : (t : Bool) → (n.value == 0) ≡ t → (i : Weekday) × Same 7 (pos (cond t (day 1) (day (n.value ^ 5))).value *ℤ pos i.value) (pos 1)
     by true p = (day 1, same_eq refl)
     by false p =
-        let t = below (λ b. (b == 0) || (b ^ 5 % 7 * b) % 7 == 1) 7 refl n.value n.ok in
+        let t = agree_below_at (λ b. (b == 0) || (b ^ 5 % 7 * b) % 7 == 1) (λ _. true) 7 n.value refl n.ok in
         (n, rest_same (n.value ^ 5 % 7 * n.value) 1 (⊎_elim (λ z. absurd (both_ways _ p z)) (eqb-true ((n.value ^ 5 % 7 * n.value) % 7) 1) (or_cases _ _ t)))
 
 pub weekday_laws : Laws weekdays
@@ -118,18 +121,18 @@ weekday_laws = record {
   no_divisors = no_divisors_7;
   negative_means = λ n. same_trans (remainder_same (7 - n.value)) (record { times = pos 1; differ = let o = n.ok in omega (arith, ints) });
   add_product_means = λ c q d r e. let f : day (c.value + q.value * d.value) ≡ r = cc in same_trans (same_eq (ap (λ (x : Weekday). pos x.value) (sym f))) (remainder_same (c.value + q.value * d.value));
-  add_product_none = λ c q d e s. let z : ◌≡◌ {A = ℕ} 0 1 = cc in omega arith;
+  add_product_none = λ c q d e s. absurd cc;
   size_same = λ x y s. ap size_of (same_value x y s);
   size_zero = λ x s. size_none x.value (is_zero x s);
   zero_size = λ x e. ⊎_elim (λ z. same_eq (ap pos z)) (λ f. absurd (let s = size_some x.value f in omega arith)) (cases_eq x.value 0);
   size_multiple = λ d x k s f. let m = size_most d.value in let o = size_some x.value (λ z. f (same_eq (ap pos z))) in omega arith;
   rest_stored = λ c d q e. (day 0, same_sym (rest_none c d q e));
   rest_smaller = λ c d q r e s. let z = size_none r.value (is_zero r (same_trans s (rest_none c d q e))) in let o = size_some d.value (quotient_value c d q e).0 in omega arith;
-  quotient_none = λ c d e. ⊎_elim (λ z. same_eq (ap pos z)) (λ f. let g = sym (cond-false (d.value == 0) None (Some (day (c.value * d.value ^ 5))) (ne_eqb _ _ f)) ∙ e in let z : ◌≡◌ {A = ℕ} 0 1 = cc in absurd (omega arith)) (cases_eq d.value 0);
+  quotient_none = λ c d e. ⊎_elim (λ z. same_eq (ap pos z)) (λ f. let g = sym (cond-false (d.value == 0) None (Some (day (c.value * d.value ^ 5))) (ne_eqb _ _ f)) ∙ e in absurd cc) (cases_eq d.value 0);
   none_quotient = λ c d s. cond-true (d.value == 0) None (Some (day (c.value * d.value ^ 5))) (eq-eqb _ _ (is_zero d s));
   unit_inverse = unit_inverted;
 }
 
 -- over the whole table
 pub fifth_below : (v : ℕ) → v < 7 → v ^ 5 < 7777
-fifth_below v h = ltb-true _ _ (below (λ v. ltb (v ^ 5) 7777) 7 refl v h)
+fifth_below v h = ltb-true _ _ (agree_below_at (λ v. ltb (v ^ 5) 7777) (λ _. true) 7 v refl h)

@@ -1,13 +1,13 @@
 -- The whole kind keeps the laws. Assumes nothing.
-use Rattle.std.specs.Prelude.{◌≡◌, ℕ, zero, suc, ◌-◌, ◌*◌, ◌/◌, ◌%◌, ◌<◌, ◌≤◌, Bool, true, false, cond, ◌⊎◌, ℤ, pos, negsuc, ◌+ℤ◌, ◌-ℤ◌, ◌*ℤ◌, neg_ℤ, Some, None, FitsSigned, ◌==◌, ◌≢◌, nat_le, unsigned_abs, refl}
+use Rattle.std.specs.Prelude.{◌≡◌, ℕ, suc, ◌-◌, ◌*◌, ◌/◌, ◌%◌, ◌<◌, ◌≤◌, Bool, true, false, cond, ◌⊎◌, ℤ, pos, negsuc, ◌+ℤ◌, ◌-ℤ◌, ◌*ℤ◌, neg_ℤ, Some, None, FitsSigned, ◌==◌, ◌≢◌, nat_le, unsigned_abs, refl}
 use Rattle.std.proofs.Common.{ap, sym, subst, ◌∙◌, inl, inr, ⊎_elim, arith, mod-lt, div-add-mod', div-le_self, mul-pos, mul-le-mul_right, mul-le-mul, add-mul, one-mul, lit<, to_z, of_z}
 use mathlib.Core.HLevel.{is_prop→PathP}
 use Rattle.std.proofs.Math.Bridge.{le_prop}
 use Rattle.std.proofs.Math.IntN.{*ℤ-zero, +ℤ_idr}
 use Rattle.std.specs.Int.{w32, w64}
-use Rattle.std.proofs.lemmas.Int.{to_z-of_z}
+use Rattle.std.proofs.lemmas.Int.{to_z-of_z, fits_signed_mul, unsigned_abs-mul}
 use borrow.Author.Differences.{ints, abs_is, sum_is_lem, fits_in}
-use Rattle.std.proofs.lemmas.Bool.{eqb-false, eq-eqb, ne_eqb, leb-true, le-leb, lt-leb, cases_eq, cond-true, cond-false}
+use Rattle.std.proofs.lemmas.Bool.{eqb-false, eq-eqb, ne_eqb, leb-true, le-leb, cases_eq, cond-true, cond-false}
 use Rattle.kinds.specs.declared.whole.Whole.{Whole}
 use Rattle.kinds.specs.Kind.{Laws, Same}
 use Rattle.kinds.specs.Whole.{nearest, fitted, down_by, floor, sign, wholes}
@@ -32,33 +32,22 @@ fitted_is z n e =
     let h : unsigned_abs z ≤ 2147483647 = subst (λ (x : ℤ). unsigned_abs x ≤ 2147483647) e n.ok in
     cond-true (nat_le (unsigned_abs z) 2147483647) (Some (nearest z)) None (le-leb _ _ h) ∙ ap Some (same_whole (nearest_is z h ∙ sym e))
 
-pub fitted_none : (z : ℤ) → 2147483647 < unsigned_abs z → fitted z ≡ None
-fitted_none z h = cond-false (nat_le (unsigned_abs z) 2147483647) (Some (nearest z)) None (lt-leb _ _ h)
-
 pub fitted_value : (z : ℤ) (n : Whole) → fitted z ≡ Some n → n.value ≡ z
 fitted_value z n e = by (nat_le (unsigned_abs z) 2147483647) refl e
   where
     by : (t : Bool) → nat_le (unsigned_abs z) 2147483647 ≡ t → cond t (Some (nearest z)) None ≡ Some n → n.value ≡ z
     by true p q = let d : nearest z ≡ n = cc in ap (λ (x : Whole). x.value) (sym d) ∙ nearest_is z (leb-true _ _ p)
-    by false p q = let c : ◌≡◌ {A = ℕ} 0 1 = cc in absurd (omega arith)
+    by false p q = absurd cc
 
 abs_neg : (z : ℤ) → unsigned_abs (neg_ℤ z) ≡ unsigned_abs z
-abs_neg (pos zero) = refl
-abs_neg (pos (suc n)) = refl
-abs_neg (negsuc n) = refl
+abs_neg z = omega (arith, ints)
 
 pub abs_zero : (z : ℤ) → unsigned_abs z ≡ 0 → z ≡ pos 0
 abs_zero z e = omega (arith, ints)
 
-pub abs_mul : (a b : ℤ) → unsigned_abs (a *ℤ b) ≡ unsigned_abs a * unsigned_abs b
-abs_mul (pos a) (pos b) = refl
-abs_mul (pos a) (negsuc b) = abs_neg (pos (a * suc b))
-abs_mul (negsuc a) (pos b) = abs_neg (pos (suc a * b))
-abs_mul (negsuc a) (negsuc b) = refl
-
 no_divisors_0 : (x y : ℤ) → Same 0 (x *ℤ y) (pos 0) → Same 0 x (pos 0) ⊎ Same 0 y (pos 0)
 no_divisors_0 x y s =
-    let p : unsigned_abs x * unsigned_abs y ≡ 0 = sym (abs_mul x y) ∙ ap unsigned_abs (equal s) in
+    let p : unsigned_abs x * unsigned_abs y ≡ 0 = sym (unsigned_abs-mul x y) ∙ ap unsigned_abs (equal s) in
     ⊎_elim (λ e. inl (same_eq (abs_zero x e)))
     (λ f. ⊎_elim (λ e. inr (same_eq (abs_zero y e)))
     (λ g. let k : 0 < unsigned_abs x = omega arith in let l : 0 < unsigned_abs y = omega arith in let m = mul-pos k l in absurd (omega arith))
@@ -103,7 +92,7 @@ quotient_value : (c d q : Whole) → wholes.quotient c d ≡ Some q → (unsigne
 quotient_value c d q e = by (unsigned_abs d.value == 0) refl e
   where
     by : (t : Bool) → (unsigned_abs d.value == 0) ≡ t → cond t None (Some (nearest (floor c.value d.value))) ≡ Some q → (unsigned_abs d.value ≢ 0) × (q.value ≡ floor c.value d.value)
-    by true p h = let z : ◌≡◌ {A = ℕ} 0 1 = cc in absurd (omega arith)
+    by true p h = absurd cc
     by false p h =
         let e : nearest (floor c.value d.value) ≡ q = cc in
         let s = floor_small c.value d.value in
@@ -121,7 +110,7 @@ unit_inverted (negsuc n) = refl
 
 multiple : (d x k : ℤ) → x ≡ k *ℤ d → (x ≢ pos 0) → unsigned_abs d ≤ unsigned_abs x
 multiple d x k e f =
-    let m : unsigned_abs x ≡ unsigned_abs k * unsigned_abs d = ap unsigned_abs e ∙ abs_mul k d in
+    let m : unsigned_abs x ≡ unsigned_abs k * unsigned_abs d = ap unsigned_abs e ∙ unsigned_abs-mul k d in
     ⊎_elim (λ z. absurd (f (abs_zero x (m ∙ ap (λ y. y * unsigned_abs d) z ∙ omega arith))))
     (λ g. let l : 1 ≤ unsigned_abs k = omega arith in let t = mul-le-mul_right (unsigned_abs d) l in omega (arith, one-mul (unsigned_abs d)))
     (cases_eq (unsigned_abs k) 0)
@@ -140,21 +129,21 @@ whole_laws = record {
   no_divisors = no_divisors_0;
   negative_means = λ n. let o = n.ok in let e = abs_neg n.value in same_eq (nearest_is (neg_ℤ n.value) (omega arith));
   add_product_means = λ c q d r e. same_eq (fitted_value (c.value +ℤ q.value *ℤ d.value) r e);
-  add_product_none = λ c q d e s. let f = fitted_is (c.value +ℤ q.value *ℤ d.value) s.0 (equal s.1) in let z : ◌≡◌ {A = ℕ} 0 1 = cc in omega arith;
+  add_product_none = λ c q d e s. let f = fitted_is (c.value +ℤ q.value *ℤ d.value) s.0 (equal s.1) in absurd cc;
   size_same = λ x y s. ap unsigned_abs (equal s);
   size_zero = λ x s. ap unsigned_abs (equal s);
   zero_size = λ x e. same_eq (abs_zero x.value e);
   size_multiple = λ d x k s f. multiple d.value x.value k (equal s) (λ e. f (same_eq e));
   rest_stored = λ c d q e. let l = rest_less c d q e in let o = d.ok in (nearest (c.value -ℤ q.value *ℤ d.value), same_eq (nearest_is (c.value -ℤ q.value *ℤ d.value) (omega arith)));
   rest_smaller = λ c d q r e s. subst (λ (x : ℤ). unsigned_abs x < unsigned_abs d.value) (sym (equal s)) (rest_less c d q e);
-  quotient_none = λ c d e. ⊎_elim (λ z. same_eq (abs_zero d.value z)) (λ f. let g = sym (cond-false (unsigned_abs d.value == 0) None (Some (nearest (floor c.value d.value))) (ne_eqb _ _ f)) ∙ e in let z : ◌≡◌ {A = ℕ} 0 1 = cc in absurd (omega arith)) (cases_eq (unsigned_abs d.value) 0);
+  quotient_none = λ c d e. ⊎_elim (λ z. same_eq (abs_zero d.value z)) (λ f. let g = sym (cond-false (unsigned_abs d.value == 0) None (Some (nearest (floor c.value d.value))) (ne_eqb _ _ f)) ∙ e in absurd cc) (cases_eq (unsigned_abs d.value) 0);
   none_quotient = λ c d s. cond-true (unsigned_abs d.value == 0) None (Some (nearest (floor c.value d.value))) (eq-eqb _ _ (ap unsigned_abs (equal s)));
   unit_inverse = λ n. (sign n.value, same_eq (unit_inverted n.value));
 }
 
 -- the product of two stored numbers
 pub product_small : (q d : Whole) → unsigned_abs (q.value *ℤ d.value) ≤ 4611686014132420609
-product_small q d = let o = q.ok in let p = d.ok in let m : unsigned_abs q.value * unsigned_abs d.value ≤ 2147483647 * 2147483647 = mul-le-mul o p in let e = abs_mul q.value d.value in omega arith
+product_small q d = let o = q.ok in let p = d.ok in let m : unsigned_abs q.value * unsigned_abs d.value ≤ 2147483647 * 2147483647 = mul-le-mul o p in let e = unsigned_abs-mul q.value d.value in omega arith
 
 pub fits_32 : (n : Whole) → FitsSigned w32 n.value
 fits_32 n = let o = n.ok in omega (arith, ints)
@@ -163,7 +152,7 @@ pub fits_64 : (n : Whole) → FitsSigned w64 n.value
 fits_64 n = let o = n.ok in omega (arith, ints)
 
 pub product_fits : (q d : Whole) → FitsSigned w64 (q.value *ℤ d.value)
-product_fits q d = let p = product_small q d in let a = abs_is (q.value *ℤ d.value) in fits_in w64 (q.value *ℤ d.value) (omega (arith))
+product_fits q d = fits_signed_mul w64 q.value d.value 2147483647 2147483647 q.ok d.ok (lit< tt)
 
 pub sum_fits : (c q d : Whole) → FitsSigned w64 (c.value +ℤ q.value *ℤ d.value)
 sum_fits c q d =

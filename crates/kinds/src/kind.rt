@@ -1,5 +1,5 @@
 // What a kind of number does, each function by equality with the kind's own record, and the laws that it keeps.
-ghost use Rattle.std.specs.Prelude.{◌≡◌, ◌==◌, nat_lt};
+ghost use Rattle.std.specs.Prelude.{◌≡◌, ℕ, ◌==◌, nat_lt};
 ghost use Rattle.kinds.specs.Kind.{Arithmetic, Laws};
 
 // A kind of number. The implementor is the number itself, always a stored one.
@@ -7,15 +7,21 @@ pub trait Kind: Copy {
     // Two whole numbers that differ by a multiple of this are the same in the kind.
     const MODULUS: u32;
 
+    ghost MODULUS: { ℕ };
+
     // A plain record that may hold anything.
     type Cell: Copy;
 
     ghost arith: { Arithmetic Self Self.Cell };
 
-    // The modulus that the laws speak of: a kind answers its MODULUS.
+    // The modulus that the laws speak of. This body serves every kind, since MODULUS is that modulus.
     fn modulus_value() -> u32
-        ensures { result ≡ arith.modulus };
+        ensures { result ≡ arith.modulus }
+    {
+        Self::MODULUS
+    }
 
+    // Conversions are methods and no From or TryFrom: the record of functions states each, and they landed so.
     // The number that a word means, or None where the kind does not admit the word.
     fn read(word: i32) -> Option<Self>
         ensures { result ≡ arith.read word };
@@ -62,6 +68,8 @@ pub trait Kind: Copy {
     // What a column with this number as its top is multiplied by to normalise it.
     fn unit(self) -> Self
         ensures { result ≡ arith.unit self };
+
+    ghost modulus_is: { MODULUS ≡ arith.modulus };
 
     ghost kept: { Laws arith };
 }

@@ -1,5 +1,5 @@
 // The functions of the weekday kind.
-ghost use Rattle.std.specs.Prelude.{◌≡◌, ◌%◌, ◌^◌, ◌<◌};
+ghost use Rattle.std.specs.Prelude.{◌≡◌, refl, ◌%◌, ◌^◌, ◌<◌};
 ghost use Rattle.kinds.specs.Weekday.{weekdays, day};
 ghost use Rattle.kinds.specs.Weekdays.{weekday_laws};
 
@@ -16,6 +16,7 @@ fn reduce(n: u32) -> Weekday
 }
 
 // The fifth power, which is the inverse modulo 7 of each number but 0.
+#[tactic(auto, using(crate::specs::Weekdays::fifth_below))]
 fn fifth(d: Weekday) -> u32
     ensures value { result ≡ d.value ^ 5 }
     ensures below { result < 7777 }
@@ -26,21 +27,21 @@ fn fifth(d: Weekday) -> u32
 impl Kind for Weekday {
     const MODULUS: u32 = 7;
 
+    ghost MODULUS = { 7 };
+
     type Cell = WeekdayCell;
 
     ghost arith = { weekdays };
 
+    ghost modulus_is = { refl };
+
     ghost kept = { weekday_laws };
 
-    fn modulus_value() -> u32 {
-        Self::MODULUS
-    }
-
     fn read(word: i32) -> Option<Weekday> {
-        if word < 0 || word > 6 {
-            return None;
+        match word {
+            0..=6 => Some(reduce(word as u32)),
+            _ => None,
         }
-        Some(reduce(word as u32))
     }
 
     fn write(self) -> i32 {
@@ -52,10 +53,9 @@ impl Kind for Weekday {
     }
 
     fn from_cell(cell: WeekdayCell) -> Option<Weekday> {
-        if cell.value < 7 {
-            Some(reduce(cell.value as u32))
-        } else {
-            None
+        match cell.value {
+            0..=6 => Some(reduce(cell.value as u32)),
+            _ => None,
         }
     }
 
@@ -80,10 +80,7 @@ impl Kind for Weekday {
     }
 
     fn quotient(self, d: Weekday) -> Option<Weekday> {
-        if d.value == 0 {
-            return None;
-        }
-        Some(reduce(self.value as u32 * fifth(d)))
+        (d.value != 0).then(|| reduce(self.value as u32 * fifth(d)))
     }
 
     fn unit(self) -> Weekday {

@@ -1,5 +1,5 @@
 // The functions of the whole kind.
-ghost use Rattle.std.specs.Prelude.{◌≡◌, ◌≤◌, pos, ◌+ℤ◌, ◌*ℤ◌, ◌≢◌, unsigned_abs};
+ghost use Rattle.std.specs.Prelude.{◌≡◌, refl, ◌≤◌, pos, ◌+ℤ◌, ◌*ℤ◌, ◌≢◌, unsigned_abs};
 ghost use Rattle.kinds.specs.Whole.{wholes, fitted, floor, nearest};
 ghost use Rattle.kinds.specs.Wholes.{whole_laws};
 
@@ -10,13 +10,10 @@ use crate::kind::Kind;
 fn stored(z: i64) -> Option<Whole>
     ensures { result ≡ fitted z }
 {
-    if z < -2147483647 {
-        return None;
+    match z {
+        -2147483647..=2147483647 => Some(Whole { value: z as i32 }),
+        _ => None,
     }
-    if z > 2147483647 {
-        return None;
-    }
-    Some(Whole { value: z as i32 })
 }
 
 fn whole(z: i32) -> Whole
@@ -48,15 +45,15 @@ fn rounded_down(c: Whole, d: Whole) -> i32
 impl Kind for Whole {
     const MODULUS: u32 = 0;
 
+    ghost MODULUS = { 0 };
+
     type Cell = WholeCell;
 
     ghost arith = { wholes };
 
-    ghost kept = { whole_laws };
+    ghost modulus_is = { refl };
 
-    fn modulus_value() -> u32 {
-        Self::MODULUS
-    }
+    ghost kept = { whole_laws };
 
     fn read(word: i32) -> Option<Whole> {
         stored(word as i64)
@@ -96,10 +93,7 @@ impl Kind for Whole {
     }
 
     fn quotient(self, d: Whole) -> Option<Whole> {
-        if d.value == 0 {
-            return None;
-        }
-        Some(whole(rounded_down(self, d)))
+        (d.value != 0).then(|| whole(rounded_down(self, d)))
     }
 
     fn unit(self) -> Whole {
