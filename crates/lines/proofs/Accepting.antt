@@ -1,5 +1,6 @@
 -- What is known of a line that is accepted, and that it would be written again byte for byte.
-use Rattle.std.proofs.Common.{◌≡◌, ℕ, zero, suc, ◌+◌, ◌*◌, ◌<◌, ◌≤◌, Bool, true, false, cond, ◌||◌, eqb, ltb, List, [], ◌∷◌, ◌++◌, length, take, drop, ℤ, Some, None, Ok, Err, Option, sym, refl, ap, ◌∙◌, arith}
+use Rattle.std.proofs.Common.{◌≡◌, ℕ, zero, suc, ◌+◌, ◌*◌, ◌<◌, ◌≤◌, Bool, true, false, cond, ◌||◌, eqb, ltb, List, [], ◌∷◌, ◌++◌, length, take, drop, ℤ, Some, None, Ok, Err, Option, option_map, sym, refl, ap, ◌∙◌, arith}
+use Rattle.std.specs.Option.{option_or}
 use Rattle.std.specs.List.{flat_map}
 use Rattle.std.proofs.ByRecursion.{All-take, All-drop, All-weaker}
 use Rattle.std.proofs.lemmas.List.{length-take-le, length-drop, take-append-drop, take_at, drop-drop}
@@ -7,8 +8,8 @@ use Rattle.std.proofs.lemmas.Bool.{ltb-false, le-ltb, eqb-true, or_parts, cond-f
 use Rattle.faults.specs.declared.LineFault.{LineFault}
 use Rattle.faults.specs.declared.LineFault.TheVariants.{FewWords}
 use Rattle.lines.specs.declared.reading.Line.{Line}
-use Rattle.lines.specs.Hex.{Hex, hex_value, no_digit, find, text, word_text}
-use Rattle.lines.specs.Line.{line_text, frame_of, count_of, words_of, numbers, is_lowest, has, first, at_place, length_refusal, digit_refusal, size_refusal, frame_refusal, number_refusal, refusal, read_refusal, read_of, answered, line_of, words_left}
+use Rattle.lines.specs.Hex.{Hex, hex_value, no_digit, text, word_text, find}
+use Rattle.lines.specs.Line.{line_text, frame_of, count_of, words_of, numbers, is_lowest, has, length_refusal, digit_refusal, size_refusal, frame_refusal, number_refusal, refusal, read_refusal, read_of, answered, line_of, words_left}
 use Rattle.lines.proofs.Digits.{text_number, word_text_word}
 use Rattle.lines.proofs.Finding.{find_none}
 use Rattle.lines.proofs.Words.{length_words_of}
@@ -17,21 +18,21 @@ use Rattle.lines.proofs.Words.{length_words_of}
 pub hex_from_find : (bytes : List ℕ) → find no_digit bytes ≡ None → Hex bytes
 hex_from_find bytes e = All-weaker (λ c. no_digit c ≡ false) (λ c. hex_value c < 16) (λ c h. let l = ltb-false 15 (hex_value c) h in omega arith) bytes (find_none no_digit 0 bytes e)
 
-pub first_none : (a b : Option LineFault) → first a b ≡ None → (a ≡ None) × (b ≡ None)
-first_none None b e = (refl, e)
-first_none (Some f) b e = let z : ◌≡◌ {A = ℕ} 0 1 = cc in absurd (omega arith)
+pub or_none : (a b : Option LineFault) → option_or a b ≡ None → (a ≡ None) × (b ≡ None)
+or_none None b e = (refl, e)
+or_none (Some f) b e = absurd cc
 
-at_place_none : (f : ℕ → LineFault) (o : Option ℕ) → at_place f o ≡ None → o ≡ None
-at_place_none f None e = refl
-at_place_none f (Some k) e = let z : ◌≡◌ {A = ℕ} 0 1 = cc in absurd (omega arith)
+map_none : (f : ℕ → LineFault) (o : Option ℕ) → option_map f o ≡ None → o ≡ None
+map_none f None e = refl
+map_none f (Some k) e = absurd cc
 
 passed : (t : Bool) (f : LineFault) → cond t None (Some f) ≡ None → t ≡ true
 passed true f e = refl
-passed false f e = let z : ◌≡◌ {A = ℕ} 0 1 = cc in absurd (omega arith)
+passed false f e = absurd cc
 
 pub not_taken : (t : Bool) (f : LineFault) → cond t (Some f) None ≡ None → t ≡ false
 not_taken false f e = refl
-not_taken true f e = let z : ◌≡◌ {A = ℕ} 0 1 = cc in absurd (omega arith)
+not_taken true f e = absurd cc
 
 pub record Accepted (known bytes : List ℕ) : Type 0 where
   pub short : length bytes ≤ 204
@@ -42,31 +43,31 @@ pub record Accepted (known bytes : List ℕ) : Type 0 where
 
 pub accepted : (known bytes : List ℕ) → refusal known bytes ≡ None → Accepted known bytes
 accepted known bytes e =
-    let a = first_none (length_refusal bytes) (first (digit_refusal bytes) (first (size_refusal bytes) (first (frame_refusal known bytes) (number_refusal bytes)))) e in
-    let b = first_none (digit_refusal bytes) (first (size_refusal bytes) (first (frame_refusal known bytes) (number_refusal bytes))) a.1 in
-    let c = first_none (size_refusal bytes) (first (frame_refusal known bytes) (number_refusal bytes)) b.1 in
-    let d = first_none (frame_refusal known bytes) (number_refusal bytes) c.1 in
+    let a = or_none (length_refusal bytes) (option_or (digit_refusal bytes) (option_or (size_refusal bytes) (option_or (frame_refusal known bytes) (number_refusal bytes)))) e in
+    let b = or_none (digit_refusal bytes) (option_or (size_refusal bytes) (option_or (frame_refusal known bytes) (number_refusal bytes))) a.1 in
+    let c = or_none (size_refusal bytes) (option_or (frame_refusal known bytes) (number_refusal bytes)) b.1 in
+    let d = or_none (frame_refusal known bytes) (number_refusal bytes) c.1 in
     let l = or_parts (ltb (length bytes) 4) (ltb 204 (length bytes)) (not_taken (ltb (length bytes) 4 || ltb 204 (length bytes)) _ a.0) in
     record {
       short = ltb-false 204 (length bytes) l.1;
-      hex = hex_from_find bytes (at_place_none _ (find no_digit bytes) b.0);
+      hex = hex_from_find bytes (map_none _ (find no_digit bytes) b.0);
       sized = eqb-true _ _ (passed (eqb (length bytes) (4 + 8 * count_of bytes)) _ c.0);
       known_frame = passed (has (frame_of bytes) known) _ d.0;
-      none_lowest = at_place_none _ (find is_lowest (numbers bytes)) d.1;
+      none_lowest = map_none _ (find is_lowest (numbers bytes)) d.1;
     }
 
 -- an answer that is a line
 pub answered_ok : (o : Option LineFault) (x y : Line) → answered o x ≡ Ok y → (o ≡ None) × (x ≡ y)
 answered_ok None x y e = (refl, cc)
-answered_ok (Some f) x y e = let z : ◌≡◌ {A = ℕ} 0 1 = cc in absurd (omega arith)
+answered_ok (Some f) x y e = absurd cc
 
 pub answered_err : (o : Option LineFault) (x : Line) (f : LineFault) → answered o x ≡ Err f → o ≡ Some f
-answered_err None x f e = let z : ◌≡◌ {A = ℕ} 0 1 = cc in absurd (omega arith)
+answered_err None x f e = absurd cc
 answered_err (Some g) x f e = cc
 
 -- enough words
 pub enough : (lent : ℕ) (known bytes : List ℕ) → 25 ≤ lent → read_refusal lent known bytes ≡ refusal known bytes
-enough lent known bytes h = ap (λ o. first o (refusal known bytes)) (cond-false (ltb lent 25) (Some FewWords) None (le-ltb lent 25 h))
+enough lent known bytes h = ap (λ o. option_or o (refusal known bytes)) (cond-false (ltb lent 25) (Some FewWords) None (le-ltb lent 25 h))
 
 -- what an answer of reading says of the line
 pub read_ok : (lent : ℕ) (known bytes : List ℕ) (line : Line) → 25 ≤ lent → read_of lent known bytes ≡ Ok line → (refusal known bytes ≡ None) × (line_of bytes ≡ line)

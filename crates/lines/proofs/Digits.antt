@@ -61,9 +61,6 @@ hex_text k n = codes (digits k n) (digits_under k n)
     codes [] u = tt
     codes (d ∷ ds) u = let a = value_code d u.0 in (omega arith, codes ds u.1)
 
-pub length_text : (k n : ℕ) → length (text k n) ≡ k
-length_text k n = length-map (digits k n) hex_code ∙ length_digits k n
-
 -- a number written in k digits reads back
 pub number_text : (k n : ℕ) → n < 16 ^ k → number_of (text k n) ≡ n
 number_text k n h = ap (number_from_digits 16) (values_codes (digits k n) (digits_under k n)) ∙ number_digits k n h
@@ -76,9 +73,6 @@ text_number k cs l h =
 number_below : (cs : List ℕ) → Hex cs → number_of cs < 16 ^ length cs
 number_below cs h = let e = length-map cs hex_value in let l = number_lt 16 (map hex_value cs) (All-map (λ d. d < 16) hex_value cs h) in rw e at l
 
-pub byte_small : (cs : List ℕ) → Hex cs → length cs ≤ 2 → number_of cs < 256
-byte_small cs h l = lt_of_lt_of_le (number_below cs h) (pow-le-pow_right {n = 16} (omega arith) l)
-
 pub word_small : (cs : List ℕ) → Hex cs → length cs ≤ 8 → number_of cs < 2 ^ 32
 word_small cs h l = lt_of_lt_of_le (number_below cs h) (pow-le-pow_right {n = 16} (omega arith) l)
 
@@ -87,6 +81,9 @@ word_word_text w f = ap (to_z w32) (number_text 8 (of_z w32 w) (omega (arith, Fi
 
 pub word_text_word : (cs : List ℕ) → length cs ≡ 8 → Hex cs → word_text (word_of cs) ≡ cs
 word_text_word cs l h = ap (text 8) (of_z-to_z w32 (number_of cs) (word_small cs h (omega arith))) ∙ text_number 8 cs l h
+
+pub digit_at : (cs : List ℕ) (i : ℕ) → Hex cs → i < length cs → hex_value (get_or cs i 0) < 16
+digit_at cs i h l = All-get_or (λ c. hex_value c < 16) cs i 0 l h
 
 -- one digit more
 pub number_more : (cs : List ℕ) (i : ℕ) → i < length cs → number_of (take (i + 1) cs) ≡ number_of (take i cs) * 16 + hex_value (get_or cs i 0)
@@ -97,3 +94,6 @@ pub number_front : (cs : List ℕ) (i : ℕ) → Hex cs → i < 8 → number_of 
 number_front cs i h lt =
     let e : length (take i cs) ≤ 7 = simp length-take (omega arith) in
     lt_of_lt_of_le (number_below (take i cs) (All-take (λ c. hex_value c < 16) i cs h)) (pow-le-pow_right {n = 16} (omega arith) e)
+
+-- what a step of reading a word needs
+pub ruleset word_steps = (number_more, number_front, digit_at)

@@ -1,24 +1,12 @@
 -- A line that is begun, filled and closed is its text at the page's end.
-use Rattle.std.proofs.Common.{◌≡◌, ℕ, suc, ◌+◌, ◌*◌, ◌<◌, ◌≤◌, Bool, true, false, cond, ltb, List, [], ◌∷◌, ◌++◌, length, get_or, take, drop, replicate, ℤ, pos, Some, None, sym, refl, ap, ◌∙◌, add-zero, arith}
+use Rattle.std.proofs.Common.{◌≡◌, ℕ, suc, ◌+◌, ◌*◌, ◌≤◌, Bool, true, false, cond, ltb, List, [], ◌∷◌, ◌++◌, length, take, drop, replicate, fold, ℤ, Some, None, sym, refl, ap, ◌∙◌, add-zero, arith}
 use Rattle.std.specs.List.{flat_map}
 use Rattle.std.proofs.lemmas.Bool.{ltb-false}
 use Rattle.faults.specs.declared.PageFault.TheVariants.{NoRoom, LineBegun, TooMany}
-use Rattle.std.proofs.lemmas.List.{append_assoc, append-nil, length-append, length-take-le, length-replicate, length_push, take_at, drop_at, take_more, replicate-append-replicate, flat_map_more}
+use Rattle.std.proofs.lemmas.List.{append_assoc, append-nil, length-append, length-take-le, length-replicate, length_push, take_at, drop_at, replicate-append-replicate, flat_map_more}
 use Rattle.lines.specs.Hex.{text, word_text}
 use Rattle.lines.specs.Line.{line_text}
 use Rattle.lines.specs.Page.{over, zeroed, Model, between, began, with_word, closed, with_text, begin_refusal}
-
--- numbers put one after another
-abbrev pub puts : Model → List ℤ → Model
-puts m [] = m
-puts m (w ∷ ws) = puts (with_word m w) ws
-
-puts_push : (m : Model) (ws : List ℤ) (w : ℤ) → puts m (ws ++ w ∷ []) ≡ with_word (puts m ws) w
-puts_push m [] w = refl
-puts_push m (v ∷ ws) w = puts_push (with_word m v) ws w
-
-pub puts_more : (m : Model) (ws : List ℤ) (i : ℕ) → i < length ws → puts m (take (i + 1) ws) ≡ with_word (puts m (take i ws)) (get_or ws i (pos 0))
-puts_more m ws i h = ap (puts m) (take_more ws i (pos 0) h) ∙ puts_push m (take i ws) (get_or ws i (pos 0))
 
 pub over_inside : {X : Type 0} (d : List X) (at x : ℕ) (p q q' r : List X) → x ≡ at + length p → length q ≡ length q' → at ≤ length d
     → over (over d at (p ++ (q ++ r))) x q' ≡ over d at (p ++ (q' ++ r))
@@ -91,10 +79,10 @@ module _ (m : Model) (frame n : ℕ) (fits : m.end + (5 + 8 * n) ≤ length m.by
       (ap (λ (y : List ℕ). over (over d at y) (at + (4 + 8 * length us)) (word_text w)) (ap (λ (y : List ℕ). text 2 frame ++ (OO ++ (J ++ y))) z ∙ s) ∙ i ∙ ap (over d at) (t ∙ j))
       ∙ ap (λ (q : ℕ). record { bytes = over d at (text 2 frame ++ (OO ++ (flat_map word_text (us ++ w ∷ []) ++ Z (8 * k + 1)))); end = at; begun = true; room = n; put = q }) c
 
-  puts_filled : (us ws : List ℤ) → puts (filled us (length ws)) ws ≡ filled (us ++ ws) 0
+  puts_filled : (us ws : List ℤ) → fold with_word (filled us (length ws)) ws ≡ filled (us ++ ws) 0
   puts_filled us [] = ap (λ (x : List ℤ). filled x 0) (sym (append-nil us))
   puts_filled us (w ∷ ws) =
-      ap (λ (x : Model). puts x ws) (word_filled us (length ws) w) ∙ puts_filled (us ++ w ∷ []) ws ∙ ap (λ (x : List ℤ). filled x 0) (append_assoc us (w ∷ []) ws)
+      ap (λ (x : Model). fold with_word x ws) (word_filled us (length ws) w) ∙ puts_filled (us ++ w ∷ []) ws ∙ ap (λ (x : List ℤ). filled x 0) (append_assoc us (w ∷ []) ws)
 
   closed_filled : (ws : List ℤ) → closed (filled ws 0) ≡ with_text m (line_text frame ws ++ 10 ∷ [])
   unfolding filled
@@ -114,9 +102,9 @@ module _ (m : Model) (frame n : ℕ) (fits : m.end + (5 + 8 * n) ≤ length m.by
       λ j. between (b j) (l j)
 
 pub line_stands : (m : Model) (frame : ℕ) (ws : List ℤ) → m.end + (5 + 8 * length ws) ≤ length m.bytes
-    → closed (puts (began m frame (length ws)) ws) ≡ with_text m (line_text frame ws ++ 10 ∷ [])
+    → closed (fold with_word (began m frame (length ws)) ws) ≡ with_text m (line_text frame ws ++ 10 ∷ [])
 line_stands m frame ws fits =
-    ap closed (ap (λ (x : Model). puts x ws) (began_filled m frame (length ws) fits) ∙ puts_filled m frame (length ws) fits [] ws)
+    ap closed (ap (λ (x : Model). fold with_word x ws) (began_filled m frame (length ws) fits) ∙ puts_filled m frame (length ws) fits [] ws)
     ∙ closed_filled m frame (length ws) fits ws
 
 -- a line can begin
@@ -124,7 +112,7 @@ pub begins : (m : Model) (n : ℕ) → begin_refusal m n ≡ None → (m.end + (
 begins m n e = by m.begun (ltb (length m.bytes) (m.end + (5 + 8 * n))) (ltb 25 n) refl refl e
   where
     by : (b t u : Bool) → ltb (length m.bytes) (m.end + (5 + 8 * n)) ≡ t → ltb 25 n ≡ u → cond b (Some LineBegun) (cond t (Some NoRoom) (cond u (Some TooMany) None)) ≡ None → (m.end + (5 + 8 * n) ≤ length m.bytes) × (n ≤ 25)
-    by true t u p q e = let z : ◌≡◌ {A = ℕ} 0 1 = cc in absurd (omega arith)
-    by false true u p q e = let z : ◌≡◌ {A = ℕ} 0 1 = cc in absurd (omega arith)
-    by false false true p q e = let z : ◌≡◌ {A = ℕ} 0 1 = cc in absurd (omega arith)
+    by true t u p q e = absurd cc
+    by false true u p q e = absurd cc
+    by false false true p q e = absurd cc
     by false false false p q e = (ltb-false (length m.bytes) (m.end + (5 + 8 * n)) p, ltb-false 25 n q)

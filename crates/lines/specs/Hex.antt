@@ -3,7 +3,7 @@ use Rattle.std.specs.Prelude.{ℕ, zero, suc, ◌+◌, ◌-◌, ◌/◌, ◌%◌
 use Rattle.std.proofs.Common.{to_z, of_z}
 use Rattle.std.specs.Int.{w32}
 use Rattle.std.specs.Int.Digits.{number_from_digits}
-use Rattle.std.specs.List.{AllByRecursion}
+use Rattle.std.specs.List.{AllByRecursion, position_from}
 
 -- the value of a character's code: 0 to 9 and A to F, and 16 for any other
 abbrev pub hex_value : ℕ → ℕ
@@ -23,13 +23,9 @@ hex_code v = cond (nat_lt v 10) (48 + v) (55 + v)
 abbrev pub Hex : List ℕ → Type 0
 Hex bytes = AllByRecursion (λ c. hex_value c < 16) bytes
 
--- the place, counted from i, of the first element that passes the test
-abbrev pub find_from : {A : Type 0} → (A → Bool) → ℕ → List A → Option ℕ
-find_from test i [] = None
-find_from test i (x ∷ xs) = cond (test x) (Some i) (find_from test (i + 1) xs)
-
+-- the place of the first element that passes the test
 abbrev pub find : {A : Type 0} → (A → Bool) → List A → Option ℕ
-find test xs = find_from test 0 xs
+find test xs = position_from test 0 xs
 
 -- the number that digits write, highest first
 abbrev pub number_of : List ℕ → ℕ

@@ -1,11 +1,12 @@
 -- Lines: a frame, a count and the numbers, in digits, and what reading one answers. Assumes nothing.
-use Rattle.std.specs.Prelude.{◌≡◌, ℕ, zero, suc, ◌+◌, ◌*◌, Bool, true, false, cond, ◌||◌, List, [], ◌∷◌, ◌++◌, length, take, drop, ℤ, pos, negsuc, Some, None, Ok, Err, Option, Result, ◌==◌, nat_lt}
-use Rattle.std.specs.List.{flat_map}
+use Rattle.std.specs.Prelude.{◌≡◌, ℕ, zero, suc, ◌+◌, ◌*◌, Bool, true, false, cond, ◌||◌, List, [], ◌∷◌, ◌++◌, length, take, drop, ℤ, pos, negsuc, Some, None, Ok, Err, Option, Result, option_map, ◌==◌, nat_lt}
+use Rattle.std.specs.List.{flat_map, list_any}
+use Rattle.std.specs.Option.{option_or}
 use Rattle.faults.specs.declared.NumberFault.TheVariants.{Lowest}
 use Rattle.faults.specs.declared.LineFault.{LineFault}
 use Rattle.faults.specs.declared.LineFault.TheVariants.{FewWords, Length, NoDigit, Size, Frame, Number}
 use Rattle.lines.specs.declared.reading.Line.{Line}
-use Rattle.lines.specs.Hex.{number_of, word_of, text, word_text, find, no_digit}
+use Rattle.lines.specs.Hex.{number_of, word_of, text, word_text, no_digit, find}
 
 -- a line, without the line feed that ends it
 abbrev pub line_text : ℕ → List ℤ → List ℕ
@@ -32,23 +33,13 @@ is_lowest (pos n) = false
 is_lowest (negsuc n) = n == 2147483647
 
 abbrev pub has : ℕ → List ℕ → Bool
-has frame [] = false
-has frame (k ∷ known) = k == frame || has frame known
-
--- the first refusal, else the other
-abbrev pub first : Option LineFault → Option LineFault → Option LineFault
-first (Some fault) other = Some fault
-first None other = other
-
-abbrev pub at_place : (ℕ → LineFault) → Option ℕ → Option LineFault
-at_place fault None = None
-at_place fault (Some place) = Some (fault place)
+has frame known = list_any (λ k. k == frame) known
 
 abbrev pub length_refusal : List ℕ → Option LineFault
 length_refusal bytes = cond (nat_lt (length bytes) 4 || nat_lt 204 (length bytes)) (Some Length) None
 
 abbrev pub digit_refusal : List ℕ → Option LineFault
-digit_refusal bytes = at_place NoDigit (find no_digit bytes)
+digit_refusal bytes = option_map NoDigit (find no_digit bytes)
 
 abbrev pub size_refusal : List ℕ → Option LineFault
 size_refusal bytes = cond (length bytes == 4 + 8 * count_of bytes) None (Some Size)
@@ -57,12 +48,12 @@ abbrev pub frame_refusal : List ℕ → List ℕ → Option LineFault
 frame_refusal known bytes = cond (has (frame_of bytes) known) None (Some Frame)
 
 abbrev pub number_refusal : List ℕ → Option LineFault
-number_refusal bytes = at_place (λ k. Number Lowest (4 + 8 * k)) (find is_lowest (numbers bytes))
+number_refusal bytes = option_map (λ k. Number Lowest (4 + 8 * k)) (find is_lowest (numbers bytes))
 
 -- why a caller who knows certain frames refuses the line, in the order of checking
 abbrev pub refusal : List ℕ → List ℕ → Option LineFault
 refusal known bytes =
-    first (length_refusal bytes) (first (digit_refusal bytes) (first (size_refusal bytes) (first (frame_refusal known bytes) (number_refusal bytes))))
+    option_or (length_refusal bytes) (option_or (digit_refusal bytes) (option_or (size_refusal bytes) (option_or (frame_refusal known bytes) (number_refusal bytes))))
 
 abbrev pub line_of : List ℕ → Line
 line_of bytes = record { frame = frame_of bytes; count = count_of bytes }
@@ -73,7 +64,7 @@ answered (Some fault) line = Err fault
 
 -- why reading into a number of lent words is refused
 abbrev pub read_refusal : ℕ → List ℕ → List ℕ → Option LineFault
-read_refusal lent known bytes = first (cond (nat_lt lent 25) (Some FewWords) None) (refusal known bytes)
+read_refusal lent known bytes = option_or (cond (nat_lt lent 25) (Some FewWords) None) (refusal known bytes)
 
 -- what reading into a number of lent words answers
 abbrev pub read_of : ℕ → List ℕ → List ℕ → Result Line LineFault

@@ -1,5 +1,6 @@
 -- A page as its calls see it, when they refuse, and what they leave. Assumes nothing.
-use Rattle.std.specs.Prelude.{ℕ, ◌+◌, ◌*◌, Bool, true, false, cond, List, [], ◌∷◌, ◌++◌, length, take, drop, replicate, ℤ, Some, None, Option, nat_lt}
+use Rattle.std.specs.Prelude.{◌≡◌, ℕ, ◌+◌, ◌*◌, ◌≤◌, Bool, true, false, cond, List, [], ◌∷◌, ◌++◌, length, take, drop, replicate, ℤ, Some, None, Option, is_some, nat_lt}
+use Rattle.std.specs.Option.{option_map_or}
 use Rattle.faults.specs.declared.PageFault.{PageFault}
 use Rattle.faults.specs.declared.PageFault.TheVariants.{NoRoom, LineBegun, NoLine, TooMany}
 use Rattle.lines.specs.declared.page.Page.{Page}
@@ -23,7 +24,13 @@ pub record Model : Type 0 where
   pub put : ℕ
 
 abbrev pub model : Page → Model
-model p = record { bytes = p.bytes.now; end = p.end; begun = p.begun; room = p.room; put = p.put }
+model p = record {
+  bytes = p.bytes.now;
+  end = p.end;
+  begun = is_some p.line;
+  room = option_map_or (λ l. l.room) p.line 0;
+  put = option_map_or (λ l. l.put) p.line 0;
+}
 
 abbrev pub empty_page : List ℕ → Model
 empty_page bytes = record { bytes = bytes; end = 0; begun = false; room = 0; put = 0 }
@@ -67,6 +74,11 @@ given_up m = between (zeroed m.bytes m.end (5 + 8 * m.room)) m.end
 -- why len bytes of whole lines cannot be put at the end of a page
 abbrev pub text_refusal_lem : Model → ℕ → Option PageFault
 text_refusal_lem m len = cond m.begun (Some LineBegun) (cond (nat_lt (length m.bytes) (m.end + len)) (Some NoRoom) None)
+
+-- no line is begun, and the page has room for len bytes
+pub record HasRoom (m : Model) (len : ℕ) : Type 0 where
+  pub idle : m.begun ≡ false
+  pub room : m.end + len ≤ length m.bytes
 
 -- the bytes of whole lines put at the end of a page
 abbrev pub with_text : Model → List ℕ → Model

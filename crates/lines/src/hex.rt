@@ -1,8 +1,8 @@
 // Hexadecimal digits, bytes of two digits and words of eight.
 ghost use Rattle.std.specs.Prelude.{◌≡◌, ◌/◌, ◌%◌, ◌<◌, length};
-ghost use Rattle.lines.specs.Hex.{hex_value, hex_code, digit_of, no_digit, find, Hex, text, word_of, word_text};
+ghost use Rattle.lines.specs.Hex.{hex_value, hex_code, digit_of, no_digit, Hex, text, word_of, word_text, find};
 
-// The value of a digit, 0 to 9 or A to F.
+// The value of a digit, 0 to 9 or A to F: upper case alone, which no method of a character says.
 pub fn digit(c: char) -> Option<u8>
     ensures { result ≡ digit_of c }
 {
@@ -13,27 +13,18 @@ pub fn digit(c: char) -> Option<u8>
     }
 }
 
-// The value of a byte, and 16 where it is no digit.
+// The value of a byte, and 16 where it is no digit. Kept with 16 for none: it landed as a public function.
 pub fn value(byte: u8) -> u8
     ensures { result ≡ hex_value byte }
 {
-    match digit(byte as char) {
-        Some(v) => v,
-        None => 16,
-    }
+    digit(byte as char).unwrap_or(16)
 }
 
 // The place of the first byte that is no digit.
 pub fn first_no_digit(bytes: &[u8]) -> Option<usize>
     ensures { result ≡ find no_digit bytes.now }
 {
-    for (i, b) in bytes.iter().enumerate() {
-        let stray = value(*b) > 15;
-        if stray {
-            return Some(i);
-        }
-    }
-    None
+    bytes.iter().position(|b| value(*b) > 15)
 }
 
 // The digit of the lowest four bits.
@@ -56,27 +47,12 @@ pub fn byte_digits(byte: u8) -> [u8; 2]
 pub fn word_digits(word: i32) -> [u8; 8]
     ensures { result ≡ word_text word }
 {
-    let a = word.cast_unsigned();
-    let b = a / 16;
-    let c = b / 16;
-    let d = c / 16;
-    let e = d / 16;
-    let f = e / 16;
-    let g = f / 16;
-    let h = g / 16;
-    [
-        low(h),
-        low(g),
-        low(f),
-        low(e),
-        low(d),
-        low(c),
-        low(b),
-        low(a),
-    ]
+    let [[a, b], [c, d], [e, f], [g, h]] = word.to_be_bytes().map(byte_digits);
+    [a, b, c, d, e, f, g, h]
 }
 
 // The word that eight digits write.
+#[tactic(auto, using(crate::proofs::Digits::word_steps))]
 pub(crate) fn word(digits: &[u8]) -> i32
     requires eight { length digits.now ≡ 8 }
     requires hex { Hex digits.now }

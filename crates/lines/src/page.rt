@@ -1,22 +1,21 @@
 // A page: lent bytes with an end, and the line that is begun there; and the token that is owed for that line.
-ghost use Rattle.std.specs.Prelude.{◌≡◌, ◌+◌, ◌*◌, ◌≤◌, length, if◌then◌else◌};
+ghost use Rattle.std.specs.Prelude.{◌≡◌, ◌+◌, ◌*◌, ◌≤◌, length};
+ghost use Rattle.std.specs.Option.{option_map_or};
 
+use begun::Begun;
 use faults::PageFault;
 
+mod begun;
 mod calls;
 
+// Kept without an `impl Model`: callers also need to know whose bytes the page holds, which no model's value tells.
 #[derive(Drop)]
 pub struct Page<'a> {
     bytes: &'a mut [u8],
-    // Where the next line is to begin, or the begun one begins.
+    // Where the next line is to begin, or the begun one begins: the page is lent bytes with an end, and no heap.
     end: usize,
-    begun: bool,
-    // How many numbers the begun line has room for, and how many were put.
-    room: usize,
-    put: usize,
-    ghost fits: { end + (if begun then 5 + 8 * room else 0) ≤ length bytes.now },
-    ghost few: { room ≤ 25 },
-    ghost less: { put ≤ room },
+    line: Option<Begun>,
+    ghost fits: { end + option_map_or (λ l. 5 + 8 * l.room) line 0 ≤ length bytes.now },
 }
 
 impl Page<'_> {

@@ -1,7 +1,8 @@
 // Reading a line: its frame, and its numbers unpacked into lent words.
-ghost use Rattle.std.specs.Prelude.{◌≡◌, ◌+◌, ◌*◌, ◌<◌, ◌≤◌, ◌++◌, length, take, drop, IfSome, IfOk};
-ghost use Rattle.lines.specs.Hex.{Hex, find, number_of, word_of};
-ghost use Rattle.lines.specs.Line.{has, words_of, is_lowest, line_text, numbers, refusal, answered, line_of, read_refusal, read_of, words_left};
+ghost use Rattle.std.specs.Prelude.{◌≡◌, ◌+◌, ◌*◌, ◌<◌, ◌≤◌, ◌++◌, length, take, drop, Some, None, IfSome, IfOk, MatchResult};
+ghost use Rattle.std.proofs.Props.{props};
+ghost use Rattle.lines.specs.Hex.{Hex, number_of, word_of, find};
+ghost use Rattle.lines.specs.Line.{words_of, is_lowest, line_text, numbers, refusal, line_of, read_refusal, read_of, words_left};
 
 use crate::hex::{first_no_digit, value, word};
 use faults::{LineFault, NumberFault};
@@ -9,7 +10,7 @@ use faults::{LineFault, NumberFault};
 // As many numbers as a line may have.
 pub const MOST_NUMBERS: usize = 25;
 
-// A line as it was read.
+// A line as it was read. Kept with a count beside the lent words: `read_line` landed as a public function with it.
 #[derive(Clone, Copy)]
 pub struct Line {
     pub frame: u8,
@@ -17,64 +18,72 @@ pub struct Line {
     pub count: usize,
 }
 
-// The byte that two digits write.
-fn byte_at(bytes: &[u8], at: usize) -> u8
-    requires within { at + 2 ≤ length bytes.now }
-    requires hex { Hex bytes.now }
-    ensures { result ≡ number_of (take 2 (drop at bytes.now)) }
+// Whether a number is -2147483648, which no line may have.
+fn lowest(word: i32) -> bool
+    ensures { result ≡ is_lowest word }
 {
-    value(bytes[at]) * 16 + value(bytes[at + 1])
+    word == i32::MIN
 }
 
-// Number k of a line.
-fn word_at(bytes: &[u8], k: usize) -> i32
-    requires few { k < 25 }
-    requires within { 12 + 8 * k ≤ length bytes.now }
-    requires hex { Hex bytes.now }
-    ensures { result ≡ word_of (take 8 (drop (4 + 8 * k) bytes.now)) }
-{
-    let at = 4 + 8 * k;
-    word(&bytes[at..at + 8])
+// The bytes of a line, each of which is a digit.
+#[derive(Drop)]
+struct Digits<'a> {
+    bytes: &'a [u8],
+    ghost hex: { Hex bytes.now } by { Prim.hlevel props },
 }
 
-// The index of the first of a line's numbers that is -2147483648.
-fn first_lowest(bytes: &[u8], count: usize) -> Option<usize>
-    requires few { count ≤ 25 }
-    requires full { length bytes.now ≡ 4 + 8 * count }
-    requires hex { Hex bytes.now }
-    ensures value { result ≡ find is_lowest (words_of count (drop 4 bytes.now)) }
-    ensures bound { IfSome result (λ k. k < count) }
-{
-    for k in 0..count {
-        if word_at(bytes, k) == i32::MIN {
-            return Some(k);
+impl Digits<'_> {
+    // The byte that two digits write.
+    fn byte(&self, at: usize) -> u8
+        requires within { at + 2 ≤ length self.now.bytes.now }
+        ensures { result ≡ number_of (take 2 (drop at self.now.bytes.now)) }
+    {
+        value(self.bytes[at]) * 16 + value(self.bytes[at + 1])
+    }
+}
+
+// A line of digits that is as long as its count says.
+#[derive(Drop)]
+struct FullLine<'a> {
+    digits: Digits<'a>,
+    line: Line,
+    ghost few: { line.count ≤ 25 },
+    ghost full: { length digits.bytes.now ≡ 4 + 8 * line.count },
+}
+
+impl FullLine<'_> {
+    // Number k.
+    fn number(&self, k: usize) -> i32
+        requires within { k < self.now.line.count }
+        ensures { result ≡ word_of (take 8 (drop (4 + 8 * k) self.now.digits.bytes.now)) }
+    {
+        let digits = &self.digits.bytes[4 + 8 * k..];
+        word(&digits[..8])
+    }
+
+    // The index of the first number that is -2147483648.
+    fn first_lowest(&self) -> Option<usize>
+        ensures value { result ≡ find is_lowest (words_of self.now.line.count (drop 4 self.now.digits.bytes.now)) }
+        ensures bound { IfSome result (λ k. k < self.now.line.count) }
+    {
+        (0..self.line.count).find(|k| lowest(self.number(*k)))
+    }
+
+    // The numbers, into the first words.
+    fn unpack(&self, words: &mut [i32])
+        requires room { self.now.line.count ≤ length words.old }
+        ensures { words.new ≡ words_of self.now.line.count (drop 4 self.now.digits.bytes.now) ++ drop self.now.line.count words.old }
+    {
+        for (k, word) in words[..self.line.count].iter_mut().enumerate() {
+            *word = self.number(k);
         }
     }
-    None
 }
 
-// The numbers of a line, into the first words.
-fn unpack(bytes: &[u8], count: usize, words: &mut [i32])
-    requires few { count ≤ 25 }
-    requires full { length bytes.now ≡ 4 + 8 * count }
-    requires hex { Hex bytes.now }
-    requires room { count ≤ length words.old }
-    ensures { words.new ≡ words_of count (drop 4 bytes.now) ++ drop count words.old }
-{
-    for k in 0..count {
-        words[k] = word_at(bytes, k);
-    }
-}
-
-fn knows(known: &[u8], frame: u8) -> bool
-    ensures { result ≡ has frame known.now }
-{
-    known.contains(&frame)
-}
-
-// The line's frame and count, or why it is refused.
-fn check_line(bytes: &[u8], known: &[u8]) -> Result<Line, LineFault>
-    ensures { result ≡ answered (refusal known.now bytes.now) (line_of bytes.now) }
+// The line, or why it is refused.
+#[tactic(auto, using(crate::proofs::Accepting::hex_from_find, crate::proofs::Finding::find_below))]
+fn check_line<'a>(bytes: &'a [u8], known: &[u8]) -> Result<FullLine<'a>, LineFault>
+    ensures cases { MatchResult result (λ full. (refusal known.now bytes.now ≡ None) × (full.line ≡ line_of bytes.now) × (full.digits.bytes.now ≡ bytes.now)) (λ fault. refusal known.now bytes.now ≡ Some fault) }
 {
     if bytes.len() < 4 || bytes.len() > 204 {
         return Err(LineFault::Length);
@@ -82,21 +91,26 @@ fn check_line(bytes: &[u8], known: &[u8]) -> Result<Line, LineFault>
     if let Some(place) = first_no_digit(bytes) {
         return Err(LineFault::NoDigit(place as u8));
     }
-    let count = byte_at(bytes, 2) as usize;
+    let digits = Digits { bytes };
+    let count = digits.byte(2) as usize;
     if bytes.len() != 4 + 8 * count {
         return Err(LineFault::Size);
     }
-    let frame = byte_at(bytes, 0);
-    if !knows(known, frame) {
+    let frame = digits.byte(0);
+    if !known.contains(&frame) {
         return Err(LineFault::Frame);
     }
-    match first_lowest(bytes, count) {
+    let full = FullLine {
+        digits,
+        line: Line { frame, count },
+    };
+    match full.first_lowest() {
         Some(k) => Err(LineFault::Number(NumberFault::Lowest, (4 + 8 * k) as u8)),
-        None => Ok(Line { frame, count }),
+        None => Ok(full),
     }
 }
 
-// Reads a line whose frame is one of those known. Its numbers are the first words; the words beyond keep what they
+// Reads a line whose frame is one of those known; frames stay numbers, since each caller knows its own. Its numbers are the first words; the words beyond keep what they
 // held, and all do where the line is refused. A line that is accepted would be written again byte for byte.
 pub fn read_line(bytes: &[u8], known: &[u8], words: &mut [i32]) -> Result<Line, LineFault>
     ensures value { result ≡ read_of (length words.old) known.now bytes.now }
@@ -106,7 +120,7 @@ pub fn read_line(bytes: &[u8], known: &[u8], words: &mut [i32]) -> Result<Line, 
     if words.len() < MOST_NUMBERS {
         return Err(LineFault::FewWords);
     }
-    let line = check_line(bytes, known)?;
-    unpack(bytes, line.count, words);
-    Ok(line)
+    let full = check_line(bytes, known)?;
+    full.unpack(words);
+    Ok(full.line)
 }

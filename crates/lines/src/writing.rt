@@ -14,13 +14,8 @@ pub fn write_line(page: &mut Page, frame: u8, words: &[i32]) -> Result<(), PageF
 {
     let token = page.begin(frame, words.len())?;
     for w in words {
-        match page.put(&token, *w) {
-            Ok(()) => {}
-            Err(_) => unreachable(),
-        }
+        page.put(&token, *w).unwrap();
     }
-    match page.close(token) {
-        Ok(()) => Ok(()),
-        Err(_) => unreachable(),
-    }
+    page.close(token).unwrap();
+    Ok(())
 }

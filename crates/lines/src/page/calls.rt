@@ -2,6 +2,7 @@
 ghost use Rattle.std.specs.Prelude.{◌≡◌, ◌+◌, ◌≤◌, length, Some, None, MatchResult};
 ghost use Rattle.lines.specs.Page.{over, zeroed, model, empty_page, with_bytes, begin_refusal, began, put_refusal, with_word, end_refusal, closed, given_up, text_refusal_lem};
 
+use super::begun::Begun;
 use super::{LineToken, Owed, Page};
 use crate::hex::{byte_digits, word_digits};
 use faults::PageFault;
@@ -15,9 +16,7 @@ impl<'a> Page<'a> {
         Page {
             bytes,
             end: 0,
-            begun: false,
-            room: 0,
-            put: 0,
+            line: None,
         }
     }
 
@@ -28,9 +27,7 @@ impl<'a> Page<'a> {
         ensures model { model self.new ≡ with_bytes (model self.old) (over self.old.bytes.now at s.now) }
         ensures len { length self.new.bytes.now ≡ length self.old.bytes.now }
     {
-        for i in 0..s.len() {
-            self.bytes[at + i] = s[i];
-        }
+        self.bytes[at..at + s.len()].copy_from_slice(s);
     }
 
     // Zeroes n bytes from `at` on.
@@ -40,16 +37,14 @@ impl<'a> Page<'a> {
         ensures model { model self.new ≡ with_bytes (model self.old) (zeroed self.old.bytes.now at n) }
         ensures len { length self.new.bytes.now ≡ length self.old.bytes.now }
     {
-        for i in 0..n {
-            self.bytes[at + i] = 0;
-        }
+        self.bytes[at..at + n].fill(0);
     }
 
-    // Why `len` bytes of whole lines cannot be put at the page's end.
+    // Why `len` bytes of whole lines cannot be put at the page's end. Kept as an Option: it landed as a public function.
     pub fn text_refusal(&self, len: usize) -> Option<PageFault>
         ensures { result ≡ text_refusal_lem (model self.now) len }
     {
-        if self.begun {
+        if self.line.is_some() {
             return Some(PageFault::LineBegun);
         }
         if self.bytes.len() - self.end < len {
@@ -63,7 +58,7 @@ impl<'a> Page<'a> {
         ensures held { self.new.bytes.ghost_name ≡ self.old.bytes.ghost_name }
         ensures cases { MatchResult result (λ _. (begin_refusal (model self.old) room ≡ None) × (model self.new ≡ began (model self.old) frame room)) (λ fault. (begin_refusal (model self.old) room ≡ Some fault) × (model self.new ≡ model self.old)) }
     {
-        if self.begun {
+        if self.line.is_some() {
             return Err(PageFault::LineBegun);
         }
         let end = self.end;
@@ -76,9 +71,7 @@ impl<'a> Page<'a> {
         }
         self.wipe(end, 5 + 8 * room);
         self.lay(end, &byte_digits(frame));
-        self.begun = true;
-        self.room = room;
-        self.put = 0;
+        self.line = Some(Begun { room, put: 0 });
         Ok(LineToken { own: () })
     }
 
@@ -87,16 +80,31 @@ impl<'a> Page<'a> {
         ensures held { self.new.bytes.ghost_name ≡ self.old.bytes.ghost_name }
         ensures cases { MatchResult result (λ _. (put_refusal (model self.old) ≡ None) × (model self.new ≡ with_word (model self.old) word)) (λ fault. (put_refusal (model self.old) ≡ Some fault) × (model self.new ≡ model self.old)) }
     {
-        if !self.begun {
-            return Err(PageFault::NoLine);
-        }
-        if self.put >= self.room {
+        let line = self.line.ok_or(PageFault::NoLine)?;
+        if line.put >= line.room {
             return Err(PageFault::TooMany);
         }
-        let at = self.end + (4 + 8 * self.put);
+        let at = self.end + (4 + 8 * line.put);
         self.lay(at, &word_digits(word));
-        self.put += 1;
+        self.line = Some(Begun {
+            room: line.room,
+            put: line.put + 1,
+        });
         Ok(())
+    }
+
+    // The begun line, whose token is taken; with none, the token is still owed.
+    fn begun_line(&self, token: LineToken) -> Result<Begun, Owed>
+        ensures { MatchResult result (λ line. self.now.line ≡ Some line) (λ owed. (self.now.line ≡ None) × (owed.fault ≡ PageFault.NoLine)) }
+    {
+        let Some(line) = self.line else {
+            return Err(Owed {
+                token,
+                fault: PageFault::NoLine,
+            });
+        };
+        let LineToken { own: _ } = token;
+        Ok(line)
     }
 
     // Closes the begun line: writes the count truly put and, behind the last number put, the line feed, where the
@@ -105,21 +113,12 @@ impl<'a> Page<'a> {
         ensures held { self.new.bytes.ghost_name ≡ self.old.bytes.ghost_name }
         ensures cases { MatchResult result (λ _. (end_refusal (model self.old) ≡ None) × (model self.new ≡ closed (model self.old))) (λ owed. (end_refusal (model self.old) ≡ Some owed.fault) × (model self.new ≡ model self.old)) }
     {
-        if !self.begun {
-            return Err(Owed {
-                token,
-                fault: PageFault::NoLine,
-            });
-        }
-        let LineToken { own: _ } = token;
+        let put = self.begun_line(token)?.put;
         let end = self.end;
-        let put = self.put;
         self.lay(end + 2, &byte_digits(put as u8));
         self.lay(end + (4 + 8 * put), b"\n");
         self.end = end + (5 + 8 * put);
-        self.begun = false;
-        self.room = 0;
-        self.put = 0;
+        self.line = None;
         Ok(())
     }
 
@@ -128,19 +127,9 @@ impl<'a> Page<'a> {
         ensures held { self.new.bytes.ghost_name ≡ self.old.bytes.ghost_name }
         ensures cases { MatchResult result (λ _. (end_refusal (model self.old) ≡ None) × (model self.new ≡ given_up (model self.old))) (λ owed. (end_refusal (model self.old) ≡ Some owed.fault) × (model self.new ≡ model self.old)) }
     {
-        if !self.begun {
-            return Err(Owed {
-                token,
-                fault: PageFault::NoLine,
-            });
-        }
-        let LineToken { own: _ } = token;
-        let end = self.end;
-        let len = 5 + 8 * self.room;
-        self.wipe(end, len);
-        self.begun = false;
-        self.room = 0;
-        self.put = 0;
+        let line = self.begun_line(token)?;
+        self.wipe(self.end, 5 + 8 * line.room);
+        self.line = None;
         Ok(())
     }
 }

@@ -1,10 +1,11 @@
-use Rattle.std.proofs.Common.{◌≡◌, ℕ, ◌+◌, length, get_or, take, pos, None, sym, ap, ◌∙◌, subst, arith, w32, SFits, rules}
+use Rattle.std.proofs.Common.{◌≡◌, ℕ, ◌+◌, length, get_or, take, fold, pos, None, sym, ap, ◌∙◌, subst, arith, w32, SFits, rules}
 use Rattle.std.specs.List.{AllByRecursion}
 use Rattle.std.proofs.ByRecursion.{All-more}
 use Rattle.lines.proofs.Returning.{reads_back}
 use Rattle.std.proofs.lemmas.List.{take_all}
+use Rattle.std.proofs.lemmas.List.Sums.{fold_more}
 use Rattle.lines.specs.Page.{Model, model, begin_refusal, began, with_word, closed}
-use Rattle.lines.proofs.Filling.{puts, puts_more, line_stands, begins}
+use Rattle.lines.proofs.Filling.{line_stands, begins}
 use Rattle.lines.proofs.writing.write_line.Goals as goal
 
 pub loop-w-preserved : goal.loop-w-preserved
@@ -13,8 +14,8 @@ loop-w-preserved c =
     let v = get_or c.args.words.now i (pos 0) in
     let e : model c.put.new.self ≡ with_word (model c.loop-w.page) v = search rules in
     let f : SFits w32 v = search rules in
-    let p : model c.put.new.self ≡ puts (model c.begin.new.self) (take (i + 1) c.args.words.now)
-    = e ∙ ap (λ (m : Model). with_word m v) c.loop-w.invariant.1 ∙ sym (puts_more (model c.begin.new.self) c.args.words.now i c.loop-w-test.true) in (
+    let p : model c.put.new.self ≡ fold with_word (model c.begin.new.self) (take (i + 1) c.args.words.now)
+    = e ∙ ap (λ (m : Model). with_word m v) c.loop-w.invariant.1 ∙ sym (fold_more with_word (model c.begin.new.self) c.args.words.now i (pos 0) c.loop-w-test.true) in (
       c.put.ensures.held ∙ c.loop-w.invariant.0,
       p,
       ap (λ (m : Model). m.begun) e ∙ c.loop-w.invariant.2,
@@ -23,19 +24,19 @@ loop-w-preserved c =
       All-more (SFits w32) c.args.words.now i (pos 0) c.loop-w-test.true c.loop-w.invariant.5 f,
     )
 
-pub returns : goal.returns
-returns c =
+pub returns-clause-cases : goal.returns-clause-cases
+returns-clause-cases c =
     let m = model c.args.page.now in
-    let frame = c.args.frame in
     let ws = c.args.words.now in
-    let m1 : (begin_refusal m (length ws) ≡ None) × (model c.begin.new.self ≡ began m frame (length ws)) = c.in_ok-token.ensures.cases in
-    let b = begins m (length ws) m1.0 in
+    let m1 : (begin_refusal m (length ws) ≡ None) × (model c.begin.new.self ≡ began m c.args.frame (length ws)) = c.in_ok-token.ensures.cases in
     let t = take_all c.loop-w.w-index ws c.loop-w-test.false in
-    let p : model c.loop-w.page ≡ puts (began m frame (length ws)) ws
-    = c.loop-w.invariant.1 ∙ ap (puts (model c.begin.new.self)) t ∙ ap (λ (x : Model). puts x ws) m1.1 in
-    let f : AllByRecursion (SFits w32) ws = subst (AllByRecursion (SFits w32)) t c.loop-w.invariant.5 in
-    record {
-      held = c.close.ensures.held ∙ c.loop-w.invariant.0 ∙ c.begin.ensures.held;
-      cases = (m1.0, c.in-Ok-close.ensures.cases.1 ∙ ap closed p ∙ line_stands m frame ws b.0);
-      back = reads_back frame ws (omega (arith, c.ranges.frame)) b.1 f;
-    }
+    let p : model c.loop-w.page ≡ fold with_word (began m c.args.frame (length ws)) ws
+    = c.loop-w.invariant.1 ∙ ap (fold with_word (model c.begin.new.self)) t ∙ ap (λ (x : Model). fold with_word x ws) m1.1 in
+    (m1.0, (rw c.unwrap-2.ensures at c.close.ensures.cases).1 ∙ ap closed p ∙ line_stands m c.args.frame ws (begins m (length ws) m1.0).0)
+
+pub returns-clause-back : goal.returns-clause-back
+returns-clause-back c =
+    let ws = c.args.words.now in
+    let m1 : (begin_refusal (model c.args.page.now) (length ws) ≡ None) × (model c.begin.new.self ≡ began (model c.args.page.now) c.args.frame (length ws)) = c.in_ok-token.ensures.cases in
+    let t = take_all c.loop-w.w-index ws c.loop-w-test.false in
+    reads_back c.args.frame ws (omega (arith, c.ranges.frame)) (begins (model c.args.page.now) (length ws) m1.0).1 (subst (AllByRecursion (SFits w32)) t c.loop-w.invariant.5)

@@ -1,0 +1,11 @@
+// The line that is begun on a page.
+ghost use Rattle.std.specs.Prelude.{◌≤◌};
+
+#[derive(Clone, Copy)]
+pub(super) struct Begun {
+    // How many numbers it has room for, and how many were put: in the page's bytes, which belong to the page.
+    pub(super) room: usize,
+    pub(super) put: usize,
+    ghost few: { room ≤ 25 },
+    ghost less: { put ≤ room },
+}
