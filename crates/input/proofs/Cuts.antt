@@ -1,69 +1,119 @@
--- A text cut at its first line feed, a byte at a time and over chunks.
-use Rattle.std.proofs.Common.{◌≡◌, ℕ, ◌+◌, ◌-◌, ◌<◌, ◌≤◌, min, true, false, cond, eqb, List, [], ◌∷◌, ◌++◌, length, get_or, take, drop, sym, refl, ap, ◌∙◌, ⊎_elim, suc-add, zero-add, arith}
-use lib.Seq.{paste}
-use Rattle.std.proofs.lemmas.List.Edits.{take-paste}
-use Rattle.std.proofs.lemmas.List.{drop_more, take_more, append_assoc, append-nil, take_all, length-take-le}
+-- A text cut at its first line feed, where a search for it stops, and over chunks.
+use Rattle.std.proofs.Common.{◌≡◌, ℕ, ◌+◌, ◌-◌, ◌≤◌, min, Bool, true, false, cond, eqb, ltb, List, [], ◌∷◌, ◌++◌, length, take, drop, Option, Result, Some, None, Ok, Err, position, option_map, suc, suc-add, sym, refl, ap, subst, inl, inr, ◌∙◌, arith}
+use Rattle.std.specs.List.{position_or_len}
+use Rattle.std.proofs.lemmas.Grind.{common_steps}
+use Rattle.std.proofs.lemmas.List.{take_all, take_min, append-nil, append_assoc}
+use Rattle.std.proofs.Math.Seq.{take-append-add}
 use Rattle.std.proofs.lemmas.Bool.Decides.{nat_tests}
-use Rattle.std.proofs.lemmas.Bool.{cases_lt}
-use Rattle.input.specs.Cutting.{line, ended}
+use Rattle.input.specs.Cutting.{line, ended, rest, lines, left, Handed}
 
-pub line_at : (b : ℕ) (bs : List ℕ) → b ≡ 10 → line (b ∷ bs) ≡ []
-line_at b bs e = grind (arith, nat_tests)
+-- whether a byte is a line feed
+abbrev pub is_feed : ℕ → Bool
+is_feed b = eqb b 10
 
-pub line_on : (b : ℕ) (bs : List ℕ) → (b ≡ 10 → ⊥) → line (b ∷ bs) ≡ b ∷ line bs
-line_on b bs e = grind (arith, nat_tests)
+pub length-line : (xs : List ℕ) → length (line xs) ≡ position_or_len is_feed xs
+length-line [] = refl
+length-line (b ∷ xs) = grind (arith, common_steps, nat_tests, length-line xs)
 
-pub ended_at : (b : ℕ) (bs : List ℕ) → b ≡ 10 → ended (b ∷ bs) ≡ true
-ended_at b bs e = grind (arith, nat_tests)
+pub ended_is : (xs : List ℕ) → ended xs ≡ ltb (position_or_len is_feed xs) (length xs)
+ended_is [] = refl
+ended_is (b ∷ xs) = grind (arith, common_steps, nat_tests, ended_is xs)
 
-pub ended_on : (b : ℕ) (bs : List ℕ) → (b ≡ 10 → ⊥) → ended (b ∷ bs) ≡ ended bs
-ended_on b bs e = grind (arith, nat_tests)
+pub line_front : (xs : List ℕ) → line xs ≡ take (length (line xs)) xs
+line_front [] = refl
+line_front (b ∷ xs) =
+    elim (eqb b 10) as (λ t. cond t [] (b ∷ line xs) ≡ take (length (cond t [] (b ∷ line xs))) (b ∷ xs)) [ true ↦ refl | false ↦ ap (λ (t : List ℕ). b ∷ t) (line_front xs) ]
 
-module _ (xs : List ℕ) (i : ℕ) (h : i < length xs) where
-  pub line_more : (get_or xs i 0 ≡ 10 → ⊥) → line xs ≡ take i xs ++ line (drop i xs) → line xs ≡ take (i + 1) xs ++ line (drop (i + 1) xs)
-  line_more ne e =
-      e
-      ∙ ap (λ (t : List ℕ). take i xs ++ line t) (drop_more xs i 0 h)
-      ∙ ap (λ (t : List ℕ). take i xs ++ t) (line_on (get_or xs i 0) (drop (i + 1) xs) ne)
-      ∙ sym (append_assoc (take i xs) (get_or xs i 0 ∷ []) (line (drop (i + 1) xs)))
-      ∙ ap (λ (t : List ℕ). t ++ line (drop (i + 1) xs)) (sym (take_more xs i 0 h))
+-- a line feed is found at n
+pub line_found : (xs : List ℕ) (n : ℕ) → position is_feed xs ≡ Some n → line xs ≡ take n xs
+line_found xs n e =
+    let at : length (line xs) ≡ n = grind (arith, common_steps, length-line xs) in
+    line_front xs ∙ ap (λ (k : ℕ). take k xs) at
 
-  pub line_found : get_or xs i 0 ≡ 10 → line xs ≡ take i xs ++ line (drop i xs) → take i xs ≡ line xs
-  line_found is e =
-      sym (e ∙ ap (λ (t : List ℕ). take i xs ++ line t) (drop_more xs i 0 h) ∙ ap (λ (t : List ℕ). take i xs ++ t) (line_at (get_or xs i 0) (drop (i + 1) xs) is) ∙ append-nil (take i xs))
+pub rest_found : (xs : List ℕ) (n : ℕ) → position is_feed xs ≡ Some n → rest xs ≡ Some (drop (n + 1) xs)
+rest_found xs n e = grind (arith, common_steps, length-line xs, ended_is xs)
 
-  pub ended_more : (get_or xs i 0 ≡ 10 → ⊥) → ended xs ≡ ended (drop i xs) → ended xs ≡ ended (drop (i + 1) xs)
-  ended_more ne e = e ∙ ap ended (drop_more xs i 0 h) ∙ ended_on (get_or xs i 0) (drop (i + 1) xs) ne
+-- none is found
+pub line_missed : (xs : List ℕ) → position is_feed xs ≡ None → line xs ≡ xs
+line_missed xs e =
+    let all : length xs ≤ length (line xs) = grind (arith, common_steps, length-line xs) in
+    line_front xs ∙ take_all (length (line xs)) xs all
 
-  pub ended_found : get_or xs i 0 ≡ 10 → ended xs ≡ ended (drop i xs) → ended xs ≡ true
-  ended_found is e = e ∙ ap ended (drop_more xs i 0 h) ∙ ended_at (get_or xs i 0) (drop (i + 1) xs) is
+pub rest_missed : (xs : List ℕ) → position is_feed xs ≡ None → rest xs ≡ None
+rest_missed xs e = grind (arith, common_steps, ended_is xs)
 
--- the line of two chunks
-pub line_append : (a b : List ℕ) → line (a ++ b) ≡ cond (ended a) (line a) (a ++ line b)
-line_append [] b = refl
-line_append (x ∷ a) b =
-    elim (eqb x 10) as (λ t. cond t [] (x ∷ line (a ++ b)) ≡ cond (cond t true (ended a)) (cond t [] (x ∷ line a)) (x ∷ (a ++ line b))) [
-      | true ↦ refl
-      | false ↦ ap (λ (t : List ℕ). x ∷ t) (line_append a b) ∙ elim (ended a) as (λ t. x ∷ cond t (line a) (a ++ line b) ≡ cond t (x ∷ line a) (x ∷ (a ++ line b))) [ true ↦ refl | false ↦ refl ]
+-- the first k bytes of what was held and what follows it
+pub kept : (old s : List ℕ) (n k : ℕ) → length old ≤ k → n ≡ min (length s) (k - length old) → old ++ take n s ≡ take k (old ++ s)
+kept old s n k le e =
+    let m : n ≡ min (k - length old) (length s) = omega arith in
+    let q : length old + (k - length old) ≡ k = omega arith in
+    ap (λ (i : ℕ). old ++ take i s) m
+    ∙ ap (λ (t : List ℕ). old ++ t) (take_min (k - length old) s)
+    ∙ sym (take-append-add old s (k - length old))
+    ∙ ap (λ (i : ℕ). take i (old ++ s)) q
+
+-- what follows the first line feed of b and xs, by whether b is one
+abbrev pub after : Bool → ℕ → List ℕ → Option (List ℕ)
+after v b xs = option_map (λ k. drop k (b ∷ xs)) (cond (cond v true (ended xs)) (Some (length (cond v [] (b ∷ line xs)) + 1)) None)
+
+-- past a byte that is no line feed
+rest_past : (b : ℕ) (xs : List ℕ) → option_map (λ k. drop k (b ∷ xs)) (cond (ended xs) (Some (suc (length (line xs)) + 1)) None) ≡ rest xs
+rest_past b xs =
+    elim (ended xs) as (λ v. option_map (λ k. drop k (b ∷ xs)) (cond v (Some (suc (length (line xs)) + 1)) None) ≡ option_map (λ k. drop k xs) (cond v (Some (length (line xs) + 1)) None)) [
+      | true ↦ ap (λ (n : ℕ). Some (drop n (b ∷ xs))) (suc-add (length (line xs)) 1)
+      | false ↦ refl
     ]
 
-pub cut_front : (p s : List ℕ) (n : ℕ) → take (length p + n) (p ++ s) ≡ p ++ take n s
-cut_front [] s n = ap (λ (m : ℕ). take m s) (zero-add n)
-cut_front (x ∷ p) s n = ap (λ (m : ℕ). take m (x ∷ (p ++ s))) (suc-add (length p) n) ∙ ap (λ (t : List ℕ). x ∷ t) (cut_front p s n)
+-- the lines of a text that has a line feed: the first, and those of what follows it
+pub lines_found : (held xs ys : List ℕ) → rest xs ≡ Some ys → lines held xs ≡ take 205 (held ++ line xs) ∷ lines [] ys
+lines_found held [] ys = λ e. cc
+lines_found held (b ∷ xs) ys =
+    elim (eqb b 10) as (λ v. after v b xs ≡ Some ys → cond v (take 205 held ∷ lines [] xs) (lines (held ++ b ∷ []) xs) ≡ take 205 (held ++ cond v [] (b ∷ line xs)) ∷ lines [] ys) [
+      | true ↦ λ e. let same : xs ≡ ys = cc in ap (λ (t : List ℕ). take 205 held ∷ lines [] t) same ∙ ap (λ (t : List ℕ). take 205 t ∷ lines [] ys) (sym (append-nil held))
+      | false ↦ λ e. lines_found (held ++ b ∷ []) xs ys (sym (rest_past b xs) ∙ e) ∙ ap (λ (t : List ℕ). take 205 t ∷ lines [] ys) (append_assoc held (b ∷ []) (line xs))
+    ]
 
-pub take_min : (xs : List ℕ) (n k : ℕ) → n ≡ min (length xs) k → take n xs ≡ take k xs
-take_min xs n k e =
-    ⊎_elim
-    (λ h. take_all n xs (omega arith) ∙ sym (take_all k xs (omega arith)))
-    (λ h. let f : n ≡ k = omega arith in ap (λ (m : ℕ). take m xs) f)
-    (cases_lt (length xs) k)
+pub left_found : (held xs ys : List ℕ) → rest xs ≡ Some ys → left held xs ≡ left [] ys
+left_found held [] ys = λ e. cc
+left_found held (b ∷ xs) ys =
+    elim (eqb b 10) as (λ v. after v b xs ≡ Some ys → cond v (left [] xs) (left (held ++ b ∷ []) xs) ≡ left [] ys) [
+      | true ↦ λ e. let same : xs ≡ ys = cc in ap (left []) same
+      | false ↦ λ e. left_found (held ++ b ∷ []) xs ys (sym (rest_past b xs) ∙ e)
+    ]
 
--- 205 bytes of what was held and what follows it
-pub kept : (d s : List ℕ) (at n k : ℕ) → at ≤ length d → at ≤ k → n ≡ min (length s) (k - at) → take (at + n) (paste d at s n) ≡ take k (take at d ++ s)
-kept d s at n k in_d le e =
-    let q : length (take at d) ≡ at = length-take-le at d in_d in
-    let r : length (take at d) + (k - at) ≡ k = omega arith in
-    take-paste d at s n in_d (omega arith)
-    ∙ ap (λ (t : List ℕ). take at d ++ t) (take_min s n (k - at) e)
-    ∙ sym (cut_front (take at d) s (k - at))
-    ∙ ap (λ (m : ℕ). take m (take at d ++ s)) r
+-- a text that has none
+pub lines_missed : (held xs : List ℕ) → rest xs ≡ None → lines held xs ≡ []
+lines_missed held [] = λ e. refl
+lines_missed held (b ∷ xs) =
+    elim (eqb b 10) as (λ v. after v b xs ≡ None → cond v (take 205 held ∷ lines [] xs) (lines (held ++ b ∷ []) xs) ≡ []) [
+      | true ↦ λ e. cc
+      | false ↦ λ e. lines_missed (held ++ b ∷ []) xs (sym (rest_past b xs) ∙ e)
+    ]
+
+pub left_missed : (held xs : List ℕ) → rest xs ≡ None → left held xs ≡ take 205 (held ++ line xs)
+left_missed held [] = λ e. ap (take 205) (sym (append-nil held))
+left_missed held (b ∷ xs) =
+    elim (eqb b 10) as (λ v. after v b xs ≡ None → cond v (left [] xs) (left (held ++ b ∷ []) xs) ≡ take 205 (held ++ cond v [] (b ∷ line xs))) [
+      | true ↦ λ e. cc
+      | false ↦ λ e. left_missed (held ++ b ∷ []) xs (sym (rest_past b xs) ∙ e) ∙ ap (take 205) (append_assoc held (b ∷ []) (line xs))
+    ]
+
+-- the next line begins with nothing held
+pub left_on : (held xs ys new : List ℕ) → rest xs ≡ Some ys → new ≡ [] → left new ys ≡ left held xs
+left_on held xs ys new e n = ap (λ (t : List ℕ). left t ys) n ∙ sym (left_found held xs ys e)
+
+module _ {F E : Type 0} (Call : F → List ℕ → Result (Unit {0}) E → F → Type 0) (f g : F) (held xs ys : List ℕ) where
+  -- the call at the first line is done, and those at the others end in r
+  pub handed_on : (new : List ℕ) (r : Result (Unit {0}) E) → rest xs ≡ Some ys → new ≡ [] → Call f (take 205 (held ++ line xs)) (Ok tt) g → Handed Call g (lines new ys) r → Handed Call f (lines held xs) r
+  handed_on new r e n call others =
+      subst (λ (ls : List (List ℕ)). Handed Call f ls r) (sym (lines_found held xs ys e))
+      (inl (g, call, subst (λ (t : List ℕ). Handed Call g (lines t ys) r) n others))
+
+  -- the call at the first line fails
+  pub handed_until : (error : E) (r : Result (Unit {0}) E) → rest xs ≡ Some ys → r ≡ Err error → Call f (take 205 (held ++ line xs)) (Err error) g → Handed Call f (lines held xs) r
+  handed_until error r e failed call =
+      subst (λ (ls : List (List ℕ)). Handed Call f ls r) (sym (lines_found held xs ys e)) (inr (error, g, call, failed))
+
+  -- there is no line
+  pub handed_all : rest xs ≡ None → Handed Call f (lines held xs) (Ok tt)
+  handed_all e = subst (λ (ls : List (List ℕ)). Handed Call f ls (Ok tt)) (sym (lines_missed held xs e)) refl

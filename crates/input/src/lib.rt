@@ -2,37 +2,45 @@
 
 #![tactic(auto)]
 
-ghost use Rattle.std.specs.Prelude.{◌≡◌, ◌<◌, ◌≤◌, ◌++◌, length, take, IfSome, nat_lt};
-ghost use Rattle.input.specs.Cutting.{line as line_part, ended, behind};
+ghost use Rattle.std.specs.Prelude.{◌≡◌, ◌<◌, ◌≤◌, ◌++◌, ◌==◌, [], length, take, position, option_copied, IfSome, OnOk};
+ghost use Rattle.std.specs.Fn.{CalledAt};
+ghost use Rattle.input.specs.Cutting.{line as line_part, rest, lines, left, Handed};
+
+use std::marker::Model;
+
+pub mod reading;
 
 // One byte more than the longest line has, so that a longer one is still seen to be too long.
 pub const KEEP: usize = 205;
 
-// The line so far, at most its first 205 bytes.
+// The line so far, at most its first 205 bytes: clauses see these bytes. An array with a length: the memory is fixed, with
+// no heap.
 #[derive(Drop)]
 pub struct Cutter {
     held: [u8; KEEP],
     len: usize,
-    ghost fits: { len ≤ 205 },
 }
 
-// How many bytes stand before the first line feed.
-fn find_feed(chunk: &[u8]) -> usize
-    ensures value { take result chunk.now ≡ line_part chunk.now }
-    ensures test { nat_lt result (length chunk.now) ≡ ended chunk.now }
-    ensures bound { result ≤ length chunk.now }
+impl Model for Cutter {
+    ghost use Rattle.std.specs.Prelude.{◌≤◌, ℕ, List, take};
+
+    ghost Value = { List ℕ };
+
+    ghost view = { λ cutter. take cutter.len cutter.held };
+
+    ghost invariant = { λ cutter. cutter.len ≤ 205 };
+}
+
+// Where the first line feed stands.
+fn find_feed(chunk: &[u8]) -> Option<usize>
+    ensures { result ≡ position (λ b. b == 10) chunk.now }
 {
-    for (i, b) in chunk.iter().enumerate() {
-        if *b == 10 {
-            return i;
-        }
-    }
-    chunk.len()
+    chunk.iter().position(|b| *b == b'\n')
 }
 
 impl Cutter {
     pub fn new() -> Cutter
-        ensures { result.len ≡ 0 }
+        ensures { result ≡ [] }
     {
         Cutter {
             held: [0; KEEP],
@@ -42,37 +50,69 @@ impl Cutter {
 
     // The line so far.
     pub fn line(&self) -> &[u8]
-        ensures { result.now ≡ take self.now.len self.now.held }
+        ensures value { result.now ≡ self.now }
+        ensures fits { length result.now ≤ 205 }
     {
-        &self.held[0..self.len]
+        &self.held[..self.len]
     }
 
     // Begins the next line.
     pub fn clear(&mut self)
-        ensures { self.new.len ≡ 0 }
+        ensures { self.new ≡ [] }
     {
         self.len = 0;
     }
 
     fn keep(&mut self, bytes: &[u8])
-        ensures { take self.new.len self.new.held ≡ take 205 (take self.old.len self.old.held ++ bytes.now) }
+        ensures { self.new ≡ take 205 (self.old ++ bytes.now) }
     {
-        let len = self.len;
-        let n = bytes.len().min(KEEP - len);
-        for i in 0..n {
-            self.held[len + i] = bytes[i];
-        }
-        self.len = len + n;
+        let n = bytes.len().min(KEEP - self.len);
+        let end = self.len + n;
+        self.held[self.len..end].copy_from_slice(&bytes[..n]);
+        self.len = end;
     }
 
-    // Takes the bytes up to the first line feed. Answers where the chunk goes on behind it, or None where there is none.
-    pub fn feed(&mut self, chunk: &[u8]) -> Option<usize>
-        ensures held { take self.new.len self.new.held ≡ take 205 (take self.old.len self.old.held ++ line_part chunk.now) }
-        ensures value { result ≡ behind chunk.now }
-        ensures bound { IfSome result (λ k. (0 < k) × (k ≤ length chunk.now)) }
+    // Takes the bytes up to the first line feed. Answers what follows it in the chunk, or None where there is none.
+    pub fn feed<'a>(&mut self, chunk: &'a [u8]) -> Option<&'a [u8]>
+        ensures held { self.new ≡ take 205 (self.old ++ line_part chunk.now) }
+        ensures value { option_copied result ≡ rest chunk.now }
+        ensures shorter { IfSome result (λ rest. length rest.now < length chunk.now) }
     {
-        let n = find_feed(chunk);
-        self.keep(&chunk[0..n]);
-        if n < chunk.len() { Some(n + 1) } else { None }
+        let Some(n) = find_feed(chunk) else {
+            self.keep(chunk);
+            return None;
+        };
+        self.keep(&chunk[..n]);
+        Some(&chunk[n + 1..])
+    }
+
+    // Hands each line that ends in the chunk to `each`, until a call of it fails, and keeps what follows the last.
+    pub fn each_line<E, F: FnMut(&[u8]) -> Result<(), E>>(
+        &mut self,
+        chunk: &[u8],
+        mut each: F,
+    ) -> Result<(), E>
+        requires { F.IsAlwaysCallable each }
+        ensures handed { Handed (CalledAt F.FnMut) each (lines self.old chunk.now) result }
+        ensures kept { OnOk result (self.new ≡ left self.old chunk.now) }
+    {
+        let mut text = chunk;
+        while let Some(rest) = self.feed(text) {
+            each(self.line())?;
+            self.clear();
+            text = rest;
+        }
+        Ok(())
+    }
+}
+
+// A cutter that holds the line already.
+impl From<&[u8]> for Cutter {
+    ghost from_gives = { λ line cutter. cutter ≡ take 205 line.now };
+
+    fn from(line: &[u8]) -> Cutter {
+        let mut cutter = Cutter::new();
+        cutter.keep(line);
+        cutter
     }
 }

@@ -1,0 +1,33 @@
+// Reading an input to its end, a chunk at a time.
+ghost use Rattle.std.specs.Prelude.{List, ℕ, IfSome, OnOk};
+ghost use Rattle.std.specs.Fn.{CalledAt};
+ghost use Rattle.input.specs.Chunks.{Fed};
+
+use std::io;
+use std::io::BufRead;
+
+// Hands each chunk of the input to `each`, until the input is at its end or a call answers false: it has enough.
+pub fn each_chunk<R: BufRead, F: FnMut(&[u8]) -> io::Result<bool>>(
+    input: &mut R,
+    mut each: F,
+) -> io::Result<()>
+    requires { F.IsAlwaysCallable each }
+    ensures { OnOk result (IfSome (R.remaining input.old) (λ bytes.
+        (chunks : List (List ℕ)) × Fed (CalledAt F.FnMut) each bytes chunks)) }
+{
+    // Counted, since a reader says nothing of what is left that would end a loop; the label names the loop in its proof.
+    'chunks: for _ in 0..u64::MAX {
+        let chunk = input.fill_buf()?;
+        let len = chunk.len();
+        if len == 0 {
+            return Ok(());
+        }
+        let more = each(chunk)?;
+        input.consume(len);
+        if !more {
+            return Ok(());
+        }
+    }
+    // The input does not end.
+    Err(io::ErrorKind::Other.into())
+}
