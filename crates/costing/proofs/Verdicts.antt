@@ -1,7 +1,7 @@
 -- What the answers mean.
-use Rattle.std.proofs.Common.{◌≡◌, ℕ, ◌+◌, ◌≤◌, Bool, true, false, cond, ◌&&◌, eqb, ltb, List, [], ◌∷◌, length, ℤ, pos, ◌+ℤ◌, neg_ℤ, nat_abs, Some, None, Ok, Err, Option, Result, sym, refl, ap, ◌∙◌, arith, lit≤}
+use Rattle.std.proofs.Common.{◌≡◌, ℕ, ◌≤◌, Bool, true, false, cond, eqb, List, [], ◌∷◌, length, ℤ, pos, ◌+ℤ◌, neg_ℤ, nat_abs, Some, None, Ok, Err, Option, Result, sym, refl, ap, ◌∙◌, arith, lit≤}
 use borrow.Author.Differences.{ints}
-use Rattle.std.proofs.lemmas.Bool.{cond-true, lt-ltb, eq-eqb, and_from, eqb-true, eqb-false}
+use Rattle.std.proofs.lemmas.Bool.{eqb-true, eqb-false}
 use Rattle.kinds.specs.declared.whole.Whole.{Whole}
 use Rattle.kinds.specs.Equation.{dot}
 use Rattle.kinds.specs.Sames.{same_eq}
@@ -17,24 +17,17 @@ use Rattle.costing.specs.declared.Refusal.TheVariants.{Equation as InEquation, P
 use Rattle.costing.specs.Costing.{equation_of, balance_of, counts_fit, judged, judgement, unless, verdict, refusal_number, answer, LinesMeet, Means}
 use Rattle.costing.proofs.Sums.{running_from}
 
--- counts that fit
-pub fit : (m n : ℕ) → 1 ≤ n → n ≤ 24 → m ≡ n + 1 → counts_fit m n ≡ true
-fit m n a b e = and_from (ltb 0 n) (ltb n 25 && eqb m (n + 1)) (lt-ltb 0 n (omega arith)) (and_from (ltb n 25) (eqb m (n + 1)) (lt-ltb n 25 (omega arith)) (eq-eqb m (n + 1) e))
-
-pub judgement_is : (ws plan : List ℤ) (o : Option Whole) → counts_fit (length ws) (length plan) ≡ true → balance_of (equation_of (length plan) ws) plan ≡ o → judgement ws plan ≡ judged o
-judgement_is ws plan o f e = cond-true (counts_fit (length ws) (length plan)) (judged (balance_of (equation_of (length plan) ws) plan)) (Err Count) f ∙ ap judged e
-
 unless_ok : (o : Option LineFault) (how : LineFault → Refusal) (rest : Result Bool Refusal) (b : Bool) → unless o how rest ≡ Ok b → rest ≡ Ok b
 unless_ok None how rest b e = e
-unless_ok (Some f) how rest b e = let z : ◌≡◌ {A = ℕ} 0 1 = cc in absurd (omega arith)
+unless_ok (Some f) how rest b e = absurd cc
 
 judged_ok : (o : Option Whole) (b : Bool) → judged o ≡ Ok b → (s : Whole) × ((o ≡ Some s) × (eqb (nat_abs s.value) 0 ≡ b))
-judged_ok None b e = let z : ◌≡◌ {A = ℕ} 0 1 = cc in absurd (omega arith)
+judged_ok None b e = absurd cc
 judged_ok (Some s) b e = (s, (refl, cc))
 
 counted_ok : (t : Bool) (rest : Result Bool Refusal) (b : Bool) → cond t rest (Err Count) ≡ Ok b → rest ≡ Ok b
 counted_ok true rest b e = e
-counted_ok false rest b e = let z : ◌≡◌ {A = ℕ} 0 1 = cc in absurd (omega arith)
+counted_ok false rest b e = absurd cc
 
 -- an answer that is no refusal comes from the exact sum
 summed : (e p : List ℕ) (b : Bool) → verdict e p ≡ Ok b → (s : Whole) × ((s.value ≡ neg_ℤ (equation_of (length (numbers p)) (numbers e)).right +ℤ dot (equation_of (length (numbers p)) (numbers e)).coefficients (numbers p)) × (eqb (nat_abs s.value) 0 ≡ b))
@@ -91,12 +84,12 @@ refusal_large Overflow = lit≤ tt
 -- the number of an answer says which it is
 answer_one : (o : Result Bool Refusal) → answer o ≡ pos 1 → o ≡ Ok true
 answer_one (Ok true) e = refl
-answer_one (Ok false) e = let z : ◌≡◌ {A = ℕ} 0 1 = cc in absurd (omega arith)
+answer_one (Ok false) e = absurd cc
 answer_one (Err f) e = let z : refusal_number f ≡ 1 = cc in let l = refusal_large f in absurd (omega arith)
 
 answer_zero : (o : Result Bool Refusal) → answer o ≡ pos 0 → o ≡ Ok false
 answer_zero (Ok false) e = refl
-answer_zero (Ok true) e = let z : ◌≡◌ {A = ℕ} 1 0 = cc in absurd (omega arith)
+answer_zero (Ok true) e = absurd cc
 answer_zero (Err f) e = let z : refusal_number f ≡ 0 = cc in let l = refusal_large f in absurd (omega arith)
 
 pub means : (e p : List ℕ) (r : ℤ) → r ≡ answer (verdict e p) → Means r e p

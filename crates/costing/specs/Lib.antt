@@ -1,1 +1,2 @@
 pub mod Costing
+pub mod Words

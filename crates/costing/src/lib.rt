@@ -2,16 +2,17 @@
 
 #![tactic(auto)]
 
-ghost use Rattle.std.specs.Prelude.{◌≡◌, ◌+◌, ◌≤◌, false, [], ◌∷◌, length, take, pos, neg_ℤ, Some, None, MatchResult};
-ghost use Rattle.kinds.specs.Whole.{fitted};
+ghost use Rattle.std.specs.Prelude.{◌≡◌, ◌+◌, false, [], ◌∷◌, length, Some, None, MatchResult};
 ghost use Rattle.lines.specs.Hex.{find};
 ghost use Rattle.lines.specs.Line.{is_lowest, numbers, refusal};
-ghost use Rattle.costing.specs.Costing.{running, judgement, verdict, refusal_number, answer, Means};
+ghost use Rattle.costing.specs.Costing.{balance_of, equation_of, judgement, verdict, refusal_number, answer, Means};
 
 use faults::LineFault;
 use kinds::kind::Kind;
 use kinds::whole::Whole;
 use lines::reading::{MOST_NUMBERS, read_line};
+
+mod words;
 
 // The frames of the two lines.
 pub const EQUATION: u8 = 0x02;
@@ -32,12 +33,12 @@ pub enum Refusal {
 }
 
 impl Refusal {
+    // The number that a caller in C gets; several refusals have the same.
     pub fn number(self) -> u8
         ensures { result ≡ refusal_number self }
     {
         match self {
-            Refusal::Equation(fault) => fault.number(),
-            Refusal::Plan(fault) => fault.number(),
+            Refusal::Equation(fault) | Refusal::Plan(fault) => fault.number(),
             Refusal::Count => 9,
             Refusal::Overflow => 15,
         }
@@ -49,77 +50,74 @@ fn whole(word: i32) -> Whole
     requires { is_lowest word ≡ false }
     ensures { result.value ≡ word }
 {
-    match Whole::read(word) {
-        Some(number) => number,
-        None => unreachable(),
-    }
+    Whole::read(word).unwrap()
+}
+
+// The numbers of a line that was read, in lent words: no line has -2147483648.
+#[derive(Drop)]
+struct Numbers<'a> {
+    words: &'a [i32],
+    ghost stored: { find is_lowest words.now ≡ None },
+}
+
+// Reads a line of the frame that is wanted.
+fn numbers_of<'a>(
+    bytes: &[u8],
+    frame: u8,
+    words: &'a mut [i32; MOST_NUMBERS],
+) -> Result<Numbers<'a>, LineFault>
+    ensures cases { MatchResult result (λ line. (refusal (frame ∷ []) bytes.now ≡ None) × (line.words.now ≡ numbers bytes.now)) (λ fault. refusal (frame ∷ []) bytes.now ≡ Some fault) }
+{
+    let line = read_line(bytes, &[frame], words)?;
+    Ok(Numbers {
+        words: &words[..line.count],
+    })
 }
 
 // The sum of coefficient × entry less the right side, as a running sum in the whole kind; None where one leaves it.
-fn balance(right: i32, coefficients: &[i32], entries: &[i32]) -> Option<Whole>
-    requires same_length { length coefficients.now ≡ length entries.now }
-    requires right_stored { is_lowest right ≡ false }
-    requires coefficients_stored { find is_lowest coefficients.now ≡ None }
-    requires entries_stored { find is_lowest entries.now ≡ None }
-    ensures { result ≡ running (fitted (neg_ℤ right)) coefficients.now entries.now }
+fn balance(equation: &Numbers, plan: &Numbers) -> Option<Whole>
+    requires { length equation.now.words.now ≡ length plan.now.words.now + 1 }
+    ensures { result ≡ balance_of (equation_of (length plan.now.words.now) equation.now.words.now) plan.now.words.now }
 {
-    let mut sum = whole(right).negative();
-    for i in 0..entries.len() {
-        sum = sum.add_product(whole(coefficients[i]), whole(entries[i]))?;
+    let n = plan.words.len();
+    let mut sum = whole(equation.words[n]).negative();
+    for (c, x) in equation.words[..n].iter().zip(plan.words) {
+        sum = sum.add_product(whole(*c), whole(*x))?;
     }
     Some(sum)
 }
 
 // Whether the plan meets the equation, by the numbers of their lines.
-fn judge(equation: &[i32], plan: &[i32]) -> Result<bool, Refusal>
-    requires equation_stored { find is_lowest equation.now ≡ None }
-    requires plan_stored { find is_lowest plan.now ≡ None }
-    ensures { result ≡ judgement equation.now plan.now }
+fn judge(equation: &Numbers, plan: &Numbers) -> Result<bool, Refusal>
+    ensures { result ≡ judgement equation.now.words.now plan.now.words.now }
 {
-    let n = plan.len();
-    if n < 1 || n > 24 || equation.len() != n + 1 {
+    let n = plan.words.len();
+    if !(1..=24).contains(&n) || equation.words.len() != n + 1 {
         return Err(Refusal::Count);
     }
-    match balance(equation[n], &equation[0..n], plan) {
-        Some(sum) => Ok(sum.is_zero()),
-        None => Err(Refusal::Overflow),
-    }
-}
-
-// Reads a line of the frame that is wanted; answers how many numbers it has.
-fn numbers_of(bytes: &[u8], frame: u8, words: &mut [i32; MOST_NUMBERS]) -> Result<usize, LineFault>
-    ensures cases { MatchResult result (λ n. (refusal (frame ∷ []) bytes.now ≡ None) × (n ≤ 25) × (take n words.new ≡ numbers bytes.now) × (find is_lowest (numbers bytes.now) ≡ None)) (λ fault. refusal (frame ∷ []) bytes.now ≡ Some fault) }
-{
-    match read_line(bytes, &[frame], words) {
-        Ok(line) => Ok(line.count),
-        Err(fault) => Err(fault),
-    }
+    let sum = balance(equation, plan).ok_or(Refusal::Overflow)?;
+    Ok(sum.is_zero())
 }
 
 // Whether the plan of the second line meets the equation of the first, in whole numbers.
 pub fn meets(equation: &[u8], plan: &[u8]) -> Result<bool, Refusal>
     ensures value { result ≡ verdict equation.now plan.now }
 {
-    let mut coefficients = [0i32; MOST_NUMBERS];
-    let mut entries = [0i32; MOST_NUMBERS];
-    let m = match numbers_of(equation, EQUATION, &mut coefficients) {
-        Ok(m) => m,
-        Err(fault) => return Err(Refusal::Equation(fault)),
-    };
-    let n = match numbers_of(plan, PLAN, &mut entries) {
-        Ok(n) => n,
-        Err(fault) => return Err(Refusal::Plan(fault)),
-    };
-    judge(&coefficients[0..m], &entries[0..n])
+    // Arrays with room to spare: the memory is fixed, with no heap.
+    let mut coefficients = [0; MOST_NUMBERS];
+    let mut entries = [0; MOST_NUMBERS];
+    let equation = numbers_of(equation, EQUATION, &mut coefficients).map_err(Refusal::Equation)?;
+    let plan = numbers_of(plan, PLAN, &mut entries).map_err(Refusal::Plan)?;
+    judge(&equation, &plan)
 }
 
-// The answer as one number.
+// The answer as one number, as a caller in C gets it.
 fn answer_of(verdict: Result<bool, Refusal>) -> i32
     ensures { result ≡ answer verdict }
 {
     match verdict {
-        Ok(met) => { if met { 1 } else { 0 } }
-        Err(refusal) => refusal.number() as i32,
+        Ok(met) => i32::from(met),
+        Err(refusal) => i32::from(refusal.number()),
     }
 }
 

@@ -1,8 +1,15 @@
-use Rattle.std.proofs.Common.{◌≡◌, drop, neg_ℤ, Some}
-use Rattle.kinds.specs.Whole.{fitted}
-use Rattle.costing.specs.Costing.{running}
+use Rattle.std.proofs.Common.{◌≡◌, false, length, Some}
+use Rattle.std.specs.Iterator.Adapters.{zip_first, zip_second}
+use Rattle.std.specs.List.{AllByRecursion}
+use Rattle.std.specs.Slice.Iter.{iter_rest}
+use Rattle.lines.specs.Line.{is_lowest}
+use Rattle.costing.specs.Costing.{equation_of, balance_of, running}
 use Rattle.costing.proofs.balance.Given as goal
 
-abbrev pub invariant-loop-i : goal.invariant-loop-i
-invariant-loop-i l =
-    running (Some l.sum) (drop l.i l.coefficients) (drop l.i l.entries) ≡ running (fitted (neg_ℤ l.right)) l.coefficients l.entries
+abbrev pub invariant-loop-c : goal.invariant-loop-c
+invariant-loop-c l =
+    (goal.iterator-loop-c).can_next l.c-iterator
+    × (goal.iterator-loop-c).is_finite l.c-iterator
+    × AllByRecursion (λ w. is_lowest w ≡ false) (iter_rest (zip_first l.c-iterator))
+    × AllByRecursion (λ w. is_lowest w ≡ false) (iter_rest (zip_second l.c-iterator))
+    × (running (Some l.sum) (iter_rest (zip_first l.c-iterator)) (iter_rest (zip_second l.c-iterator)) ≡ balance_of (equation_of (length l.plan.words.now) l.equation.words.now) l.plan.words.now)

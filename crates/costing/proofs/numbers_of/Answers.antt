@@ -1,31 +1,37 @@
-use Rattle.std.proofs.Common.{◌≡◌, ℕ, List, [], ◌∷◌, length, take, ℤ, sym, ap, ◌∙◌, arith, rules}
+use Rattle.std.proofs.Common.{◌≡◌, ℕ, ◌≤◌, List, [], ◌∷◌, length, take, ℤ, None, Ok, sym, ap, ◌∙◌, arith, rules}
+use Rattle.std.proofs.lemmas.Result.{err_from_is_err_and}
+use Rattle.lines.specs.Hex.{find}
+use Rattle.lines.specs.Line.{is_lowest, numbers, refusal, read_refusal, read_of, words_left}
 use Rattle.lines.specs.declared.reading.Line.{Line}
 use Rattle.lines.proofs.Accepting.{accepted, read_ok, read_err, words_read}
 use Rattle.costing.proofs.numbers_of.Goals as goal
 
-pub returns-in-Ok : goal.returns-in-Ok
-returns-in-Ok c =
-    let bytes = c.args.bytes.now in
-    let known = c.args.frame ∷ [] in
-    let old = c.args.words.now in
-    let words : List ℤ = c.read_line.new.words in
-    let long : length old ≡ 25 = search rules in
-    let a = read_ok (length old) known bytes c.in-Ok.line (omega arith) (sym c.in-Ok.ensures.value) in
-    let w = accepted known bytes a.0 in
-    let n = w.sized in
-    let s = w.short in
-    let k = ap (λ (l : Line). l.count) a.1 in
-    record {
-      cases = (
-        a.0,
-        omega arith,
-        ap (λ (m : ℕ). take m words) (sym k) ∙ ap (take _) c.in-Ok.ensures.after ∙ words_read (length old) known bytes old (omega arith) a.0,
-        w.none_lowest,
-      );
-    }
+-- the first words are the numbers of a line that was read
+first_words : (known bytes : List ℕ) (old words : List ℤ) (line : Line) → 25 ≤ length old → Ok line ≡ read_of (length old) known bytes →
+    words ≡ words_left (read_refusal (length old) known bytes) bytes old → (refusal known bytes ≡ None) × (take line.count words ≡ numbers bytes)
+first_words known bytes old words line long e after =
+    let a = read_ok (length old) known bytes line long (sym e) in (
+      a.0,
+      ap (λ (l : Line). take l.count words) (sym a.1) ∙ ap (take _) after ∙ words_read (length old) known bytes old long a.0,
+    )
 
-pub returns-in-Err : goal.returns-in-Err
-returns-in-Err c =
+pub returns-in_err-line : goal.returns-in_err-line
+returns-in_err-line c =
     let old = c.args.words.now in
     let long : length old ≡ 25 = search rules in
-    record { cases = read_err (length old) (c.args.frame ∷ []) c.args.bytes.now c.in-Err.fault (omega arith) (sym c.in-Err.ensures.value) }
+    let e = read_err (length old) (c.args.frame ∷ []) c.args.bytes.now _ (omega arith) (sym c.in_err-line.ensures.value) in
+    let p = err_from_is_err_and c.from_residual.result c.from_residual.ensures.1 in
+    record { cases = rw (p.1, p.2) e }
+
+pub invariant_of-result : goal.invariant_of-result
+invariant_of-result c =
+    let old = c.args.words.now in
+    let long : length old ≡ 25 = search rules in
+    let r = first_words (c.args.frame ∷ []) c.args.bytes.now old _ c.in_ok-line.line (omega arith) c.in_ok-line.ensures.value c.in_ok-line.ensures.after in
+    record { stored = ap (find is_lowest) r.1 ∙ (accepted (c.args.frame ∷ []) c.args.bytes.now r.0).none_lowest }
+
+pub returns : goal.returns
+returns c =
+    let old = c.args.words.now in
+    let long : length old ≡ 25 = search rules in
+    record { cases = first_words (c.args.frame ∷ []) c.args.bytes.now old _ c.in_ok-line.line (omega arith) c.in_ok-line.ensures.value c.in_ok-line.ensures.after }
