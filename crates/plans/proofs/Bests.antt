@@ -23,11 +23,11 @@ module _ (f : ℕ → ℕ) (s : ℕ) where
   best_other n e (Some b) w =
       cond_both (ltb (f b) (f n)) n b (λ x. Best (suc n) (Some x))
       (λ t. let l = ltb-true (f b) (f n) t in
-      (omega arith, e, (λ j h k. ⊎_elim (λ q. omega (arith, w.2 j q k)) (λ q. let z : j ≡ n = omega arith in rw z (omega arith)) (cases_lt j n)), λ j h k. omega (arith, w.2 j h k)))
+      (omega arith, e, (λ j h k. ⊎_elim (λ q. omega (arith, w.2 j q k)) (λ (q : n ≤ j). let z : j ≡ n = omega arith in rw z (omega arith)) (cases_lt j n)), λ j h k. omega (arith, w.2 j h k)))
       (λ t. let l = ltb-false (f b) (f n) t in
-      (omega arith, w.1, (λ j h k. ⊎_elim (λ q. w.2 j q k) (λ q. let z : j ≡ n = omega arith in rw z l) (cases_lt j n)), w.3))
+      (omega arith, w.1, (λ j h k. ⊎_elim (λ q. w.2 j q k) (λ (q : n ≤ j). let z : j ≡ n = omega arith in rw z l) (cases_lt j n)), w.3))
   best_other n e None w =
-      (omega arith, e, (λ j h k. ⊎_elim (λ q. absurd (k (w j q))) (λ q. let z : j ≡ n = omega arith in rw z (omega arith)) (cases_lt j n)), λ j h k. absurd (k (w j h)))
+      (omega arith, e, (λ j h k. ⊎_elim (λ q. absurd (k (w j q))) (λ (q : n ≤ j). let z : j ≡ n = omega arith in rw z (omega arith)) (cases_lt j n)), λ j h k. absurd (k (w j h)))
 
   pub best : (n : ℕ) → Best n (largest_of f s n)
   best zero = λ j h. omega arith

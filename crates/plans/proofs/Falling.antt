@@ -9,7 +9,7 @@ use Rattle.plans.proofs.Bests.{best_some}
 -- what came, where a step went on
 pub then_some : {X Y : Type 0} (p : Option X) (f : X → Option Y) (y : Y) → then p f ≡ Some y → (x : X) × ((p ≡ Some x) × (f x ≡ Some y))
 then_some (Some x) f y e = (x, (refl, e))
-then_some None f y e = let z : ◌≡◌ {A = ℕ} 0 1 = cc in absurd (omega arith)
+then_some None f y e = absurd cc
 
 -- the top of a column plus q × another
 pub column_top : {N C : Type 0} (a : Arithmetic N C) (c : Column N) (q : N) (d r : Column N) → adds_column a c q d ≡ Some r → a.add_product c.top q d.top ≡ Some r.top
@@ -59,18 +59,18 @@ module _ {N C : Type 0} (a : Arithmetic N C) (laws : Laws a) where
 
   turned_again : (o : Option (Work N)) (v : Work N) → turned a o ≡ again v → o ≡ Some v
   turned_again (Some w) v e = cc
-  turned_again None v e = let z : ◌≡◌ {A = ℕ} 0 1 = cc in absurd (omega arith)
+  turned_again None v e = absurd cc
 
   not_stop : (b : Bool) (l : ℕ) (x : Turn N) (v : Work N) → cond b (stop l) x ≡ again v → x ≡ again v
-  not_stop true l x v e = let z : ◌≡◌ {A = ℕ} 0 1 = cc in absurd (omega arith)
+  not_stop true l x v e = absurd cc
   not_stop false l x v e = e
 
   by_again : (w v : Work N) (l : ℕ) → pivot_of a w.columns ≡ Some l → (o : Option ℕ) → runner_up_of a w.columns l ≡ o → turn_by a w l o ≡ again v → Went w v
-  by_again w v l p None q e = let z : ◌≡◌ {A = ℕ} 0 1 = cc in absurd (omega arith)
+  by_again w v l p None q e = absurd cc
   by_again w v l p (Some r) q e = rounded w v l r p q (turned_again (round a w l r) v (not_stop (eqb (size_at a w.columns r) 0) l (turned a (round a w l r)) v e))
 
   at_again : (w v : Work N) (o : Option ℕ) → pivot_of a w.columns ≡ o → turn_at a w o ≡ again v → Went w v
-  at_again w v None p e = let z : ◌≡◌ {A = ℕ} 0 1 = cc in absurd (omega arith)
+  at_again w v None p e = absurd cc
   at_again w v (Some l) p e = by_again w v l p (runner_up_of a w.columns l) refl e
 
   pub went : (w v : Work N) → turn a w ≡ again v → Went w v

@@ -15,7 +15,7 @@ use Rattle.plans.proofs.Rightness.{at_stop}
 
 -- something is not nothing
 some_none : {X : Type 0} {x : X} {P : Type 0} → ◌≡◌ {A = Option X} (Some x) None → P
-some_none e = let z : ◌≡◌ {A = ℕ} 0 1 = cc in absurd (omega arith)
+some_none e = absurd cc
 
 -- where steps came to none: the first did, or the second
 then_none : {X Y : Type 0} (p : Option X) (f : X → Option Y) → then p f ≡ None → (p ≡ None) ⊎ ((x : X) × (p ≡ Some x) × (f x ≡ None))
@@ -123,11 +123,11 @@ module _ {N C : Type 0} (a : Arithmetic N C) (laws : Laws a) where
       omega arith
 
   turned_fail : (o : Option (Work N)) → turned a o ≡ fail → o ≡ None
-  turned_fail (Some v) e = let z : ◌≡◌ {A = ℕ} 0 1 = cc in absurd (omega arith)
+  turned_fail (Some v) e = absurd cc
   turned_fail None e = refl
 
   not_stop : (b : Bool) (l : ℕ) (t : Turn N) → cond b (stop l) t ≡ fail → (b ≡ false) × (t ≡ fail)
-  not_stop true l t e = let z : ◌≡◌ {A = ℕ} 0 1 = cc in absurd (omega arith)
+  not_stop true l t e = absurd cc
   not_stop false l t e = (refl, e)
 
   -- a turn that fails is a round that does
@@ -149,7 +149,7 @@ module _ {N C : Type 0} (a : Arithmetic N C) (laws : Laws a) where
           (then_none (reduced a w.B (at a cs l)) _ n)
 
       by : (o : Option ℕ) → runner_up_of a cs l ≡ o → turn_by a w l o ≡ fail → LacksRound a w
-      by None q t = let z : ◌≡◌ {A = ℕ} 0 1 = cc in absurd (omega arith)
+      by None q t = absurd cc
       by (Some r) q t =
           let n = not_stop (eqb (size_at a cs r) 0) l (turned a (round a w l r)) t in
           record { work = w; l = l; r = r; comes = here w; pivot = p.1; runner_up = q; lacks = both r (eqb-false (size_at a cs r) 0 n.0) (turned_fail (round a w l r) n.1) }
@@ -205,11 +205,11 @@ module _ {N C : Type 0} (a : Arithmetic N C) (laws : Laws a) where
 
       by_low : (o : Option (List N)) → adds a w.B.low (a.negative q) d.low ≡ o → closed a w.columns l o ≡ overflow → Lacks a w.B.low (a.negative q) d.low
       by_low None u e = adds_lacks a w.B.low (a.negative q) d.low u
-      by_low (Some x) u e = let z : ◌≡◌ {A = ℕ} 0 1 = cc in absurd (omega arith)
+      by_low (Some x) u e = absurd cc
 
       by_test : (b : Bool) → cond b (closed a w.columns l (adds a w.B.low (a.negative q) d.low)) contradicted ≡ overflow → Lacks a w.B.low (a.negative q) d.low
       by_test true e = by_low (adds a w.B.low (a.negative q) d.low) refl e
-      by_test false e = let z : ◌≡◌ {A = ℕ} 0 1 = cc in absurd (omega arith)
+      by_test false e = absurd cc
 
       by_top : (o : Option N) → a.add_product w.B.top (a.negative q) d.top ≡ o → settled a w l q o ≡ overflow → LacksColumn a w.B (a.negative q) d
       by_top None t e = inl t
@@ -231,8 +231,8 @@ module _ {N C : Type 0} (a : Arithmetic N C) (laws : Laws a) where
           in_rounds ds fs b t u n (rounds_lack (record { B = b; columns = fs }) (λ z. h (normal_zero ds fs n z)) (rounds a (suc (total_size a fs)) (record { B = b; columns = fs })) refl e)
 
       flat_lacks : (b c : Bool) (rest : Outcome N) → cond b (cond c implied contradicted) rest ≡ overflow → (b ≡ false) × (rest ≡ overflow)
-      flat_lacks true true rest e = let z : ◌≡◌ {A = ℕ} 0 1 = cc in absurd (omega arith)
-      flat_lacks true false rest e = let z : ◌≡◌ {A = ℕ} 0 1 = cc in absurd (omega arith)
+      flat_lacks true true rest e = absurd cc
+      flat_lacks true false rest e = absurd cc
       flat_lacks false c rest e = (refl, e)
 
       prepared_lacks : (o : Option (List (Column N))) (p : Option (Column N)) → topped a cs s.moves ≡ o → column_B a cs right s.fixed ≡ p → prepared a o p ≡ overflow → Lacking a s cs right

@@ -57,8 +57,8 @@ module _ {N C : Type 0} (a : Arithmetic N C) where
 
   stop_is : (b : Bool) (k l : ℕ) (o : Option (Work N)) → cond b (stop k) (turned a o) ≡ stop l → (b ≡ true) × (k ≡ l)
   stop_is true k l o e = (refl, cc)
-  stop_is false k l (Some v) e = let z : ◌≡◌ {A = ℕ} 0 1 = cc in absurd (omega arith)
-  stop_is false k l None e = let z : ◌≡◌ {A = ℕ} 0 1 = cc in absurd (omega arith)
+  stop_is false k l (Some v) e = absurd cc
+  stop_is false k l None e = absurd cc
 
   by_stop : (w : Work N) (k l : ℕ) → pivot_of a w.columns ≡ Some k → (o : Option ℕ) → runner_up_of a w.columns k ≡ o → turn_by a w k o ≡ stop l → Alone w.columns l
   by_stop w k l p None q e = let z : k ≡ l = cc in subst (λ x. Alone w.columns x) z (no_other w.columns k p q)
@@ -67,7 +67,7 @@ module _ {N C : Type 0} (a : Arithmetic N C) where
       subst (λ x. Alone w.columns x) z.1 (zero_other w.columns k r p q (eqb-true (size_at a w.columns r) 0 z.0))
 
   pub at_stop : (w : Work N) (l : ℕ) (o : Option ℕ) → pivot_of a w.columns ≡ o → turn_at a w o ≡ stop l → Alone w.columns l
-  at_stop w l None p e = let z : ◌≡◌ {A = ℕ} 0 1 = cc in absurd (omega arith)
+  at_stop w l None p e = absurd cc
   at_stop w l (Some k) p e = by_stop w k l p (runner_up_of a w.columns k) refl e
 
 module _ {N C : Type 0} (a : Arithmetic N C) (laws : Laws a) where

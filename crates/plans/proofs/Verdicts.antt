@@ -84,22 +84,22 @@ module _ {m n : ℕ} {es : List Equation} {e : Equation} where
   judged_implied : ((p : Plan m n es) → Meets m e p.0) → Plan m n es → Verdict m n es e is_implied
   judged_implied all p = record {
     all_do = (λ _. all, λ _. refl);
-    some_do = (λ r. let z : ◌≡◌ {A = ℕ} 0 1 = cc in absurd (omega arith), λ r. absurd (r.1.1 (all r.1.0)));
-    none_does = (λ r. let z : ◌≡◌ {A = ℕ} 0 1 = cc in absurd (omega arith), λ r. absurd (r p (all p)));
+    some_do = (λ r. absurd cc, λ r. absurd (r.1.1 (all r.1.0)));
+    none_does = (λ r. absurd cc, λ r. absurd (r p (all p)));
   }
 
   judged_contradicted : ((p : Plan m n es) → ¬ Meets m e p.0) → Plan m n es → Verdict m n es e is_contradicted
   judged_contradicted no_one p = record {
-    all_do = (λ r. let z : ◌≡◌ {A = ℕ} 0 1 = cc in absurd (omega arith), λ r. absurd (no_one p (r p)));
-    some_do = (λ r. let z : ◌≡◌ {A = ℕ} 0 1 = cc in absurd (omega arith), λ r. absurd (no_one r.0.0 r.0.1));
+    all_do = (λ r. absurd cc, λ r. absurd (no_one p (r p)));
+    some_do = (λ r. absurd cc, λ r. absurd (no_one r.0.0 r.0.1));
     none_does = (λ _. no_one, λ _. refl);
   }
 
   judged_taken : ((p : Plan m n es) × Meets m e p.0) → ((p : Plan m n es) × ¬ Meets m e p.0) → Verdict m n es e is_taken
   judged_taken one other = record {
-    all_do = (λ r. let z : ◌≡◌ {A = ℕ} 0 1 = cc in absurd (omega arith), λ r. absurd (other.1 (r other.0)));
+    all_do = (λ r. absurd cc, λ r. absurd (other.1 (r other.0)));
     some_do = (λ _. (one, other), λ _. refl);
-    none_does = (λ r. let z : ◌≡◌ {A = ℕ} 0 1 = cc in absurd (omega arith), λ r. absurd (r one.0 one.1));
+    none_does = (λ r. absurd cc, λ r. absurd (r one.0 one.1));
   }
 
 -- the end: a top row that is 0 but at place l

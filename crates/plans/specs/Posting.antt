@@ -1,12 +1,12 @@
 -- Posting an equation to a sheet, step by step: which answer it gets, and what the sheet then holds. Assumes nothing.
 use Rattle.std.specs.Prelude.{◌≡◌, ℕ, zero, suc, ◌+◌, ◌<◌, cond, List, [], ◌∷◌, map, length, Some, None, Option, ◌==◌, nat_lt, slice_index_or, slice_set}
+use Rattle.std.specs.Option.{option_and_then}
 use Rattle.kinds.specs.Kind.{Arithmetic}
 use Rattle.plans.specs.Sheet.{Contents}
 
 -- goes on with what came, if anything did
 abbrev pub then : {X Y : Type 0} → Option X → (X → Option Y) → Option Y
-then (Some x) f = f x
-then None f = None
+then o f = option_and_then f o
 
 -- a list without its place i
 abbrev pub without : {X : Type 0} → List X → ℕ → List X

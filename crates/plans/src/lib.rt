@@ -1,4 +1,5 @@
-// The mathematics of a sheet: what it holds and how a posting works are in specs/; here stand the theorems.
+// The mathematics of a sheet: what it holds and how a posting works are in specs/; here stand the theorems. What a function
+// that carries one answers means nothing; it landed as a number.
 
 #![tactic(auto)]
 

@@ -65,10 +65,6 @@ module _ {N C : Type 0} (a : Arithmetic N C) (n p k l : ℕ) (start : List C) (m
       (omega arith, m ∙ ap (λ (c : Column N). c.low) (without_behind T l j d b ∙ column_of a n (p + (n + 1)) k start (suc j) d (omega arith)) ∙ ap (λ (i : ℕ). numbers a (part (p + (n + 1) + i * (n + 1) + 1) n start)) f))
       (cases_lt j l)
 
-  -- the column of a source lies within the cells
-  pub source_below : (j r : ℕ) → j < k - 1 → Source j l r → r < k
-  source_below j r h s = (move_left j r h s).0
-
   each_long : (j : ℕ) → j < k - 1 → length (get_or L j []) ≡ n
   each_long j h = ⊎_elim (λ b. long (record { before = λ _. refl; behind = λ c. absurd (omega arith) })) (λ b. long (record { before = λ c. absurd (omega arith); behind = λ _. refl })) (cases_lt j l)
     where

@@ -10,7 +10,7 @@ use Rattle.sheets.specs.Work.{Only, column_at, columns_at, Laid}
 use Rattle.sheets.proofs.Numbers.{length_numbers_part}
 use Rattle.sheets.proofs.Places.{column_in}
 use Rattle.sheets.specs.Combining.{Within}
-use Rattle.sheets.proofs.Limits.{only_within, within_trans, within_same}
+use Rattle.sheets.proofs.Limits.{only_within, within_trans}
 use Rattle.sheets.proofs.Rounding.{column_other, column_of, length_columns, columns_apart}
 use Rattle.sheets.proofs.Standing.{part_other, column_put}
 use Rattle.sheets.proofs.Walks.{over_nothing, over_push}
@@ -141,9 +141,6 @@ module _ {N C : Type 0} (a : Arithmetic N C) (cs : List N) (n p k : ℕ) (start 
   same_move : (j : ℕ) (now : List C) → j < k → Tops a cs n p k start j now → numbers a (part (n + j * n) n now) ≡ get_or M j []
   same_move j now h w = ap (numbers a) (part_before p (k * (n + 1)) (n + j * n) n start now w.inside (let c = column_in j k n h in omega arith)) ∙ sym (move_of j h)
 
-  pub tops_start : Tops a cs n p k start 0 start
-  tops_start = record { inside = within_same; sum = refl }
-
   pub tops_none : (j : ℕ) (now : List C) → j < k → Tops a cs n p k start j now → running a a.zero cs (numbers a (part (n + j * n) n now)) ≡ None → (topped a cs M ≡ None) × Within p (k * (n + 1)) start now
   tops_none j now h w e =
       let l = length_M in (
@@ -191,9 +188,6 @@ module _ {N C : Type 0} (a : Arithmetic N C) (n p k : ℕ) (start : List C) (roo
   normal_of : (j : ℕ) (now : List C) (o : Option (Column N)) → j < k → Units a n p k start j now → normal a (column_at a now n (p + j * (n + 1))) ≡ o → normal a (get_or S j first_column) ≡ o
   normal_of j now o h w e = ap (normal a) (column_of a n p k start j first_column h ∙ sym (w.rest j (omega arith) h)) ∙ e
 
-  pub units_start : Units a n p k start 0 start
-  units_start = record { inside = within_same; sum = refl; rest = λ i b h. refl }
-
   pub units_none : (j : ℕ) (now : List C) → j < k → Units a n p k start j now → normal a (column_at a now n (p + j * (n + 1))) ≡ None → normalised a S ≡ None
   units_none j now h w e =
       let l = length_columns a n p k start in
@@ -237,13 +231,3 @@ module _ {N C : Type 0} (a : Arithmetic N C) where
 
   pub total_zero : (cells : List C) (n p j : ℕ) → total_size a (columns_at a cells n p j) ≡ 0 → a.size (number_at a cells (p + j * (n + 1))) ≡ 0 → total_size a (columns_at a cells n p (j + 1)) ≡ 0
   total_zero cells n p j e f = ap (total_size a) (columns_push a n p cells j) ∙ total_push (columns_at a cells n p j) (column_at a cells n (p + j * (n + 1))) ∙ omega arith
-
-  pub total_some : (cells : List C) (n p k j : ℕ) → j < k → (a.size (number_at a cells (p + j * (n + 1))) ≡ 0 → ⊥) → total_size a (columns_at a cells n p k) ≡ 0 → ⊥
-  total_some cells n p k j h f e =
-      let T = columns_at a cells n p k in
-      let d = column_at a cells n 0 in
-      let l = length_columns a n p k cells in
-      let s = total_part (take j T) (drop (j + 1) T) (get_or T j d) in
-      let q = ap (total_size a) (at_place T j d (omega arith)) in
-      let c = ap (λ (x : Column N). a.size x.top) (column_of a n p k cells j d h) in
-      f (omega (arith, s, q, c, e))

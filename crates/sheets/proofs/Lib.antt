@@ -16,5 +16,6 @@ pub mod Rows
 pub mod Settling
 pub mod Shows
 pub mod Standing
+pub mod Tables
 pub mod Turning
 pub mod Walks

@@ -1,10 +1,10 @@
 -- The words of a call: which are admitted, and what their numbers mean.
 use Rattle.std.proofs.Common.{◌≡◌, ℕ, zero, suc, ◌+◌, ◌<◌, Bool, true, false, cond, not, List, [], ◌∷◌, map, length, get_or, take, ℤ, pos, is_some, Some, None, Option, sym, refl, ap, ◌∙◌, subst, add-zero, zero-add, arith, w32, SFits}
-use Rattle.std.specs.List.{AllByRecursion}
+use Rattle.std.specs.List.{AllByRecursion, position_from}
 use Rattle.std.proofs.ByRecursion.{All-weaker}
 use Rattle.std.proofs.lemmas.Bool.{cond-true, cond-false}
 use Rattle.kinds.specs.Kind.{Arithmetic, Laws, Same, Admitted}
-use Rattle.lines.specs.Hex.{find_from, find}
+use Rattle.lines.specs.Hex.{find}
 use Rattle.lines.proofs.Finding.{find_none, none_find}
 use Rattle.plans.specs.Solution.{SameLists, ended, also}
 use Rattle.sheets.specs.Cells.{or_zero}
@@ -16,20 +16,20 @@ module _ {A : Type 0} (test : A → Bool) (d : A) where
   abbrev First : List A → ℕ → Type 0
   First xs j = (j < length xs) × (test (get_or xs j d) ≡ true) × AllByRecursion (λ x. test x ≡ false) (take j xs)
 
-  found : (i : ℕ) (xs : List A) (k : ℕ) → find_from test i xs ≡ Some k → (j : ℕ) × (i + j ≡ k) × First xs j
+  found : (i : ℕ) (xs : List A) (k : ℕ) → position_from test i xs ≡ Some k → (j : ℕ) × (i + j ≡ k) × First xs j
   found i [] k e = let z : ◌≡◌ {A = ℕ} 0 1 = cc in absurd (omega arith)
   found i (x ∷ xs) k e = by (test x) refl (found (i + 1) xs k) e
     where
-      by : (t : Bool) → test x ≡ t → (find_from test (i + 1) xs ≡ Some k → (j : ℕ) × (i + 1 + j ≡ k) × First xs j) → cond t (Some i) (find_from test (i + 1) xs) ≡ Some k → (j : ℕ) × (i + j ≡ k) × First (x ∷ xs) j
+      by : (t : Bool) → test x ≡ t → (position_from test (i + 1) xs ≡ Some k → (j : ℕ) × (i + 1 + j ≡ k) × First xs j) → cond t (Some i) (position_from test (i + 1) xs) ≡ Some k → (j : ℕ) × (i + j ≡ k) × First (x ∷ xs) j
       by true p rest e = let s : i ≡ k = cc in (0, omega arith, (omega arith, p, tt))
       by false p rest e = let r = rest e in (suc r.0, omega (arith, r.1), (omega (arith, r.2.0), r.2.1, (p, r.2.2)))
 
-  first_found : (i : ℕ) (xs : List A) (j : ℕ) → First xs j → find_from test i xs ≡ Some (i + j)
+  first_found : (i : ℕ) (xs : List A) (j : ℕ) → First xs j → position_from test i xs ≡ Some (i + j)
   first_found i [] j f = absurd (omega (arith, f.0))
-  first_found i (x ∷ xs) zero (h, p, q) = cond-true (test x) (Some i) (find_from test (i + 1) xs) p ∙ ap Some (sym (add-zero i))
+  first_found i (x ∷ xs) zero (h, p, q) = cond-true (test x) (Some i) (position_from test (i + 1) xs) p ∙ ap Some (sym (add-zero i))
   first_found i (x ∷ xs) (suc j) (h, p, q) =
       let e : i + 1 + j ≡ i + suc j = omega arith in
-      cond-false (test x) (Some i) (find_from test (i + 1) xs) q.0 ∙ first_found (i + 1) xs j (omega arith, p, q.1) ∙ ap Some e
+      cond-false (test x) (Some i) (position_from test (i + 1) xs) q.0 ∙ first_found (i + 1) xs j (omega arith, p, q.1) ∙ ap Some e
 
 module _ {N C : Type 0} (a : Arithmetic N C) where
   abbrev TakenUp : ℤ → Type 0

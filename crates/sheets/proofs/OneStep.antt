@@ -114,21 +114,6 @@ module _ {N C : Type 0} (a : Arithmetic N C) (laws : Laws a) where
         by (Ok (n, l)) = new_stands n cells
         by (Err fault) = new_general a laws 0
 
-    -- it has no more moves than unknowns, and all cells that were lent
-    pub open_few : (opened a unknowns list cells).moves ≤ (opened a unknowns list cells).unknowns
-    open_few = by (asked unknowns list (length cells))
-      where
-        by : (o : Result (ℕ × ℕ) SheetFault) → (opened_by a o cells).moves ≤ (opened_by a o cells).unknowns
-        by (Ok (n, l)) = omega arith
-        by (Err fault) = omega arith
-
-    pub open_length : length (opened a unknowns list cells).cells ≡ length cells
-    open_length = by (asked unknowns list (length cells)) refl
-      where
-        by : (o : Result (ℕ × ℕ) SheetFault) → asked unknowns list (length cells) ≡ o → length (opened_by a o cells).cells ≡ length cells
-        by (Ok (n, l)) e = new_length n cells (asked_room unknowns list (length cells) n l e)
-        by (Err fault) e = refl
-
     pub open_sound : Sound a (opened a unknowns list cells)
     open_sound = by (asked unknowns list (length cells)) refl
       where
@@ -224,33 +209,6 @@ module _ {N C : Type 0} (a : Arithmetic N C) (laws : Laws a) where
             let room = (standing m p.stand).room in
             outcome_law room (outcome_of a m ws) (right p (fit q)) (leaves room)
 
-    -- the unknowns and the number of cells stay, and the moves are never more than the unknowns
-    pub post_unknowns : (post_left a m ws).unknowns ≡ m.unknowns
-    post_unknowns = by (post_refusal_lem a m ws)
-      where
-        by : (o : Option SheetFault) → (after_unless a o m (outcome_of a m ws)).unknowns ≡ m.unknowns
-        by (Some fault) = refl
-        by None = refl
-
-    pub post_few : (post_left a m ws).moves ≤ (post_left a m ws).unknowns
-    post_few = by (post_refusal_lem a m ws) (outcome_of a m ws)
-      where
-        by : (o : Option SheetFault) (out : Outcome N) → (after_unless a o m out).moves ≤ (after_unless a o m out).unknowns
-        by (Some fault) out = few
-        by None (taken t) = omega arith
-        by None implied = few
-        by None contradicted = few
-        by None overflow = few
-
-    pub post_length : length (post_left a m ws).cells ≡ length m.cells
-    post_length = by (post_refusal_lem a m ws) refl
-      where
-        by : (o : Option SheetFault) → post_refusal_lem a m ws ≡ o → length (after_unless a o m (outcome_of a m ws)).cells ≡ length m.cells
-        by (Some fault) q = refl
-        by None q =
-            let room = (standing m (postable a m ws q).stand).room in
-            laid_length a n (main_after a (outcome_of a m ws) n m.cells) m.cells (length_after room (outcome_of a m ws) (leaves room)) room
-
     pub post_sound : Sound a m → Sound a (post_left a m ws)
     post_sound h = by (post_refusal_lem a m ws) refl
       where
@@ -282,15 +240,6 @@ module _ {N C : Type 0} (a : Arithmetic N C) (laws : Laws a) where
 
     pub clear_law : ClearLaw a m (clear_answer m) (clear_left a m)
     clear_law = by_stands (ClearLaw a m) (λ _. record { unknowns = refl; in_force = λ es h. new_stands m.unknowns m.cells }) (record { unknowns = refl; in_force = λ es h. h })
-
-    pub clear_unknowns : (clear_left a m).unknowns ≡ m.unknowns
-    clear_unknowns = by_stands (λ _ x. x.unknowns ≡ m.unknowns) (λ _. refl) refl
-
-    pub clear_few : m.moves ≤ m.unknowns → (clear_left a m).moves ≤ (clear_left a m).unknowns
-    clear_few few = by_stands (λ _ x. x.moves ≤ x.unknowns) (λ _. omega arith) few
-
-    pub clear_length : length (clear_left a m).cells ≡ length m.cells
-    clear_length = by_stands (λ _ x. length x.cells ≡ length m.cells) (λ e. new_length m.unknowns m.cells (standing m e).room) refl
 
     pub clear_sound : Sound a m → Sound a (clear_left a m)
     clear_sound h = by_stands (λ _. Sound a) (λ e some. new_sound m.unknowns m.cells (standing m e).room) h

@@ -1,5 +1,5 @@
 -- What a posting comes to, from its steps.
-use Rattle.std.proofs.Common.{◌≡◌, ℕ, suc, ◌+◌, ◌-◌, ◌*◌, ◌<◌, ◌≤◌, true, false, cond, eqb, ◌⊎◌, List, ◌++◌, map, length, get_or, take, drop, Some, None, Ok, Option, Result, sym, refl, ap, ◌∙◌, subst, inr, ⊎_elim, add-mul, zero-add, mul-one, mul-add, arith}
+use Rattle.std.proofs.Common.{◌≡◌, ℕ, suc, ◌+◌, ◌-◌, ◌*◌, ◌<◌, ◌≤◌, true, false, cond, eqb, List, ◌++◌, map, length, get_or, take, drop, Some, None, Ok, Result, sym, refl, ap, ◌∙◌, subst, inr, add-mul, zero-add, mul-one, mul-add, arith}
 use Rattle.std.specs.List.{flat_map}
 use Rattle.std.proofs.lemmas.List.{length-append, length-map, length-replicate, take_at, drop_at, drop-drop, get_or-take, ext_get_or}
 use Rattle.std.proofs.lemmas.Bool.{cond-true, cond-false}
@@ -33,19 +33,6 @@ module _ {N C : Type 0} (a : Arithmetic N C) (n p k : ℕ) (place : p ≡ n * (n
         main = ap (λ (i : ℕ). take i ds) (sym place) ∙ w.front ∙ ap (λ (i : ℕ). take i cs) place ∙ sym m;
         back = w.back;
       }
-
-  -- the same with more steps before
-  pub settled_from : (o : Outcome N) (r : Result Verdict SheetFault) (cs ds es : List C) → Within p (work_cells a n k) cs ds → Settled a o n p k ds r es → Settled a o n p k cs r es
-  settled_from o r cs ds es w s = record { answer = s.answer; len = s.len ∙ w.len; main = s.main ∙ same o; back = s.back ∙ w.back }
-    where
-      front : take (main_cells n) ds ≡ take (main_cells n) cs
-      front = ap (λ (i : ℕ). take i ds) (sym place) ∙ w.front ∙ ap (λ (i : ℕ). take i cs) place
-
-      same : (o : Outcome N) → main_after a o n ds ≡ main_after a o n cs
-      same (taken t) = refl
-      same implied = front
-      same contradicted = front
-      same overflow = front
 
   -- the main cells written
   pub settled_taken : (s : Contents N) (cs ds es : List C) → Within p (work_cells a n k) cs ds → length (main_of a n s) ≡ main_cells n → p ≤ length cs → es ≡ over ds 0 (main_of a n s) → Settled a (taken s) n p k cs (Ok Taken) es
@@ -129,9 +116,6 @@ module _ {N C : Type 0} (a : Arithmetic N C) (n p k : ℕ) (cs : List C) (place 
     wide1 : Within p (work_cells a n k) cs ds
     wide1 = within_wider w1 (omega arith) (omega arith)
 
-    pub length_1 : length ds ≡ length cs
-    length_1 = w1.len
-
     pub rounds_fail : (r : Result Verdict SheetFault) (es : List C) → r ≡ answer_of_lem {N = N} overflow → rounds_at a ds n p k ≡ None → Within p (work_cells a n k) ds es → Settled a O n p k cs r es
     rounds_fail r es er e w =
         let o : O ≡ overflow = after_normal ∙ ap (finish a) e in
@@ -178,16 +162,6 @@ module _ {N C : Type 0} (a : Arithmetic N C) (es : List N) (right : N) (n p k : 
   abbrev P : Outcome N
   P = posted a (contents_in a n k cs) es right
 
-  none_B : (o : Option (List (Column N))) → prepared a o None ≡ overflow
-  none_B None = refl
-  none_B (Some x) = refl
-
-  pub prepare_fails : (r : Result Verdict SheetFault) → r ≡ answer_of_lem {N = N} overflow → (topped a es (moves_at a cs n k) ≡ None) ⊎ (column_B a es right (numbers a (take n cs)) ≡ None) → Settled a P n p k cs r ds
-  prepare_fails r er e =
-      let o : P ≡ overflow
-      = ⊎_elim (λ t. ap (λ (x : Option (List (Column N))). prepared a x (column_B a es right (numbers a (take n cs)))) t) (λ b. ap (prepared a (topped a es (moves_at a cs n k))) b ∙ none_B (topped a es (moves_at a cs n k))) e in
-      settled_kept a n p k place P r cs ds (er ∙ ap answer_of_lem (sym o)) (ap (λ (x : Outcome N). main_after a x n cs) o) w
-
   module _ (et : topped a es (moves_at a cs n k) ≡ Some (columns_at a ds n (p + (n + 1)) k)) (eb : column_B a es right (numbers a (take n cs)) ≡ Some (column_at a ds n p)) where
     abbrev T : List (Column N)
     T = columns_at a ds n (p + (n + 1)) k
@@ -211,11 +185,6 @@ module _ {N C : Type 0} (a : Arithmetic N C) (es : List N) (right : N) (n p k : 
       flat_contradicted e =
           let o : P ≡ contradicted = when_flat ∙ cond-false (eqb (a.size B.top) 0) implied contradicted e in
           settled_kept a n p k place P (answer_of_lem {N = N} contradicted) cs ds (ap answer_of_lem (sym o)) (ap (λ (x : Outcome N). main_after a x n cs) o) w
-
-    pub not_flat : (r : Result Verdict SheetFault) (fs : List C) → eqb (total_size a T) 0 ≡ false → Settled a (worked a B (normalised a T)) n p k ds r fs → Settled a P n p k cs r fs
-    not_flat r fs z s =
-        let o : P ≡ worked a B (normalised a T) = after_prepare ∙ cond-false (eqb (total_size a T) 0) (cond (eqb (a.size B.top) 0) implied contradicted) (worked a B (normalised a T)) z in
-        subst (λ (x : Outcome N). Settled a x n p k cs r fs) (sym o) (settled_from a n p k place (worked a B (normalised a T)) r cs ds fs w s)
 
 -- the spare cells wiped at the end
 pub all_cells : {N C : Type 0} (a : Arithmetic N C) (o : Outcome N) (n p k : ℕ) (cs ds es : List C) (r : Result Verdict SheetFault) → p ≡ n * (n + 1) → k ≤ n → p + spare_cells n ≤ length cs → Settled a o n p k cs r ds → es ≡ over ds p (zero_cells a (spare_cells n)) → es ≡ cells_after a o n cs

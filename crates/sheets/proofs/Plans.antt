@@ -1,5 +1,5 @@
 -- The plan of a choice: gathered unknown by unknown, and what it means.
-use Rattle.std.proofs.Common.{◌≡◌, ℕ, zero, suc, ◌+◌, ◌*◌, ◌<◌, ◌≤◌, List, [], ◌∷◌, ◌++◌, map, length, get_or, take, drop, set, ℤ, pos, ◌+ℤ◌, ◌*ℤ◌, Some, None, Option, sym, refl, ap, ◌∙◌, subst, zero-add, arith}
+use Rattle.std.proofs.Common.{◌≡◌, ℕ, zero, suc, ◌+◌, ◌*◌, ◌<◌, ◌≤◌, List, [], ◌∷◌, ◌++◌, map, length, get_or, take, drop, set, ℤ, pos, ◌+ℤ◌, ◌*ℤ◌, Some, None, Option, sym, refl, ap, ◌∙◌, subst, arith}
 use Rattle.std.specs.List.{range_with_len as counting}
 use Rattle.std.proofs.lemmas.List.FromFn.{length-map-range_with_len, get_or-map-range_with_len, map-range_with_len_more}
 use Rattle.std.proofs.lemmas.List.{length-map, length_push, length-set, map-append, take_more_set, get_or-map}
@@ -15,7 +15,7 @@ use Rattle.plans.proofs.Sizes.{Measured}
 use Rattle.plans.proofs.Stored.{meant, running_means, sized_meant}
 use Rattle.plans.proofs.Vectors.{plus_length, dot_same}
 use Rattle.sheets.specs.Cells.{number_at, move_at, moves_at, contents_in}
-use Rattle.sheets.specs.Picking.{collected, entries, picked, plan_of, Planned}
+use Rattle.sheets.specs.Picking.{collected, entries, picked, plan_of}
 use Rattle.sheets.proofs.Numbers.{number_of_part, running_more, running_end}
 use Rattle.sheets.proofs.Places.{column_in}
 
@@ -154,9 +154,6 @@ module _ {N C : Type 0} (a : Arithmetic N C) (cells : List C) (n k i : ℕ) (roo
       ∙ ap (λ (move : List N). get_or move i a.zero) (get_or-map-range_with_len (move_at a cells n) 0 k j j [] h (omega arith))
       ∙ number_of_part a cells (n + j * n) n i (omega arith) there
 
-  pub pick_start : (x : N) → x ≡ number_at a cells i → running a x Entries xs ≡ Sum
-  pick_start x e = ap (λ (y : N). running a y Entries xs) (e ∙ ap (number_at a cells) (sym (zero-add i)) ∙ sym (number_of_part a cells 0 n i (omega arith) there))
-
   pub pick_more : (j from : ℕ) (sum e x : N) (o : Option N) → j < k → from ≡ n + j * n → e ≡ number_at a cells (from + i) → x ≡ get_or xs j a.zero → o ≡ a.add_product sum e x
       → running a sum (drop j Entries) (drop j xs) ≡ Sum → then o (λ t. running a t (drop (j + 1) Entries) (drop (j + 1) xs)) ≡ Sum
   pick_more j from sum e x o h ef ee ex eo s =
@@ -168,18 +165,15 @@ module _ {N C : Type 0} (a : Arithmetic N C) (cells : List C) (n k i : ℕ) (roo
   pick_end j sum h s = sym (running_end a sum Entries xs j (let l = length_entries in omega arith)) ∙ s
 
 -- the words of the first i unknowns
-pub record Filled {N C : Type 0} (a : Arithmetic N C) (s : Contents N) (choice : List N) (i : ℕ) (words : List ℤ) : Type 0 where
+pub record Filled {N C : Type 0} (a : Arithmetic N C) (s : Contents N) (choice : List N) (n i : ℕ) (words : List ℤ) : Type 0 where
   pub ys : List N
   pub long : length ys ≡ i
   pub came : plan_of a i s choice ≡ Some ys
   pub written : take i words ≡ map a.write ys
-  pub all : length words ≡ 24
+  pub all : length words ≡ n
 
-module _ {N C : Type 0} (a : Arithmetic N C) (s : Contents N) (choice : List N) where
-  pub fills_start : (words : List ℤ) → length words ≡ 24 → Filled a s choice 0 words
-  fills_start words l = record { ys = []; long = refl; came = refl; written = refl; all = l }
-
-  pub fills_more : (words : List ℤ) (i : ℕ) (x : N) (w : ℤ) → i < 24 → Filled a s choice i words → Some x ≡ picked a s choice i → w ≡ a.write x → Filled a s choice (i + 1) (set words i w)
+module _ {N C : Type 0} (a : Arithmetic N C) (s : Contents N) (choice : List N) (n : ℕ) where
+  pub fills_more : (words : List ℤ) (i : ℕ) (x : N) (w : ℤ) → i < n → Filled a s choice n i words → Some x ≡ picked a s choice i → w ≡ a.write x → Filled a s choice n (i + 1) (set words i w)
   fills_more words i x w h f e ew = record {
     ys = f.ys ++ x ∷ [];
     long = length_push f.ys x ∙ ap (λ (j : ℕ). j + 1) f.long;
@@ -188,10 +182,7 @@ module _ {N C : Type 0} (a : Arithmetic N C) (s : Contents N) (choice : List N) 
     all = length-set words i w ∙ f.all;
   }
 
-  pub fills_none : (n i : ℕ) → i < n → None ≡ picked a s choice i → plan_of a n s choice ≡ None
-  fills_none n i h e =
+  pub fills_none : (i : ℕ) → i < n → None ≡ picked a s choice i → plan_of a n s choice ≡ None
+  fills_none i h e =
       collected_none (map (picked a s choice) (counting 0 n)) i (let l = length-map-range_with_len (picked a s choice) 0 n in omega arith)
       (get_or-map-range_with_len (picked a s choice) 0 n i i None h (omega arith) ∙ sym e)
-
-  pub fills_end : (n i : ℕ) (words : List ℤ) → i ≡ n → Filled a s choice i words → Planned a (plan_of a n s choice) n (Some words)
-  fills_end n i words e f = (f.ys, (ap (λ (j : ℕ). plan_of a j s choice) (sym e) ∙ f.came, ap (λ (j : ℕ). take j words) (sym e) ∙ f.written))

@@ -1,5 +1,5 @@
 -- When a call on a sheet is refused, and what then holds.
-use Rattle.std.proofs.Common.{◌≡◌, ℕ, ◌+◌, ◌≤◌, Bool, true, false, cond, eqb, ltb, List, length, ℤ, Some, None, Err, Option, Result, sym, refl, ap, ◌∙◌, arith}
+use Rattle.std.proofs.Common.{◌≡◌, ℕ, ◌+◌, ◌≤◌, Bool, true, false, cond, eqb, ltb, List, length, ℤ, Some, None, Ok, Err, Option, Result, sym, refl, ap, ◌∙◌, arith}
 use Rattle.std.specs.List.{AllByRecursion}
 use Rattle.std.proofs.lemmas.Bool.{eqb-true, eqb-false, ltb-false}
 use Rattle.faults.specs.declared.NumberFault.TheVariants.{NotAdmitted}
@@ -13,7 +13,7 @@ use Rattle.sheets.specs.Cells.{needed}
 use Rattle.sheets.specs.Law.{judgement_of, RefusalsExact}
 use Rattle.sheets.specs.Picking.{pick_refusal_lem}
 use Rattle.sheets.specs.Posted.{answer_of_lem}
-use Rattle.sheets.specs.Sheet.{Model, stands, word_fault, post_refusal_lem, outcome_of, answer_unless, post_answer}
+use Rattle.sheets.specs.Sheet.{Model, stands, done_unless, word_fault, post_refusal_lem, outcome_of, answer_unless, post_answer}
 use Rattle.sheets.specs.Words.{is_refused}
 use Rattle.sheets.proofs.Meanings.{find_refused, refused_find, find_admitted, admitted_find}
 
@@ -134,3 +134,12 @@ module _ {N C : Type 0} (a : Arithmetic N C) (m : Model C) (choice : List ℤ) (
       by true true false w p q o r e = let z : ◌≡◌ {A = ℕ} 0 1 = cc in absurd (omega arith)
       by true true true (Some i) p q o r e = let z : ◌≡◌ {A = ℕ} 0 1 = cc in absurd (omega arith)
       by true true true None p q o r e = record { stand = p; count = eqb-true (length choice) m.moves q; words = eqb-true len m.unknowns o; all = find_admitted a choice r }
+
+-- what is not done has a fault, and what is done has none
+pub undone : (o : Option SheetFault) (fault : SheetFault) → done_unless o ≡ Err fault → o ≡ Some fault
+undone None fault e = let z : ◌≡◌ {A = ℕ} 0 1 = cc in absurd (omega arith)
+undone (Some x) fault e = let z : x ≡ fault = cc in ap Some z
+
+pub done_none : (o : Option SheetFault) → done_unless o ≡ Ok tt → o ≡ None
+done_none None e = refl
+done_none (Some x) e = let z : ◌≡◌ {A = ℕ} 0 1 = cc in absurd (omega arith)

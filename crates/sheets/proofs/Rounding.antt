@@ -91,9 +91,6 @@ module _ {N C : Type 0} (a : Arithmetic N C) (n p k l r : ℕ) (cs : List C) (ro
     length_ds : length ds ≡ length cs
     length_ds = (only_within (a.to_cell a.zero) p (n + 1) p (n + 1) cs ds only1 (omega arith) (omega arith) (omega arith)).len
 
-    pub second_room : (at_l + (n + 1) ≤ length ds) × (at_r + (n + 1) ≤ length ds)
-    second_room = let e = length_ds in let x = column_in l k (n + 1) hl in let y = column_in r k (n + 1) hr in (omega arith, omega arith)
-
     same_l : column_at a ds n at_l ≡ column_at a cs n at_l
     same_l = let x = column_in l k (n + 1) hl in column_other a n cs ds p at_l only1 (omega arith) (omega arith) (inr (omega arith))
 

@@ -1,20 +1,17 @@
 -- Numbers written to a page, a line for each row of cells.
-use Rattle.std.proofs.Common.{◌≡◌, ℕ, zero, suc, ◌+◌, ◌*◌, ◌<◌, ◌≤◌, Bool, true, false, cond, eqb, ltb, List, [], ◌∷◌, ◌++◌, map, length, get_or, take, set, ℤ, pos, Some, None, sym, refl, ap, ◌∙◌, add-zero, mul-le-mul_right, suc-mul, mul-one, mul-add, add-one, arith}
+use Rattle.std.proofs.Common.{◌≡◌, ℕ, zero, suc, ◌+◌, ◌*◌, ◌<◌, ◌≤◌, List, [], ◌++◌, map, length, sym, ap, ◌∙◌, add-zero, mul-le-mul_right, suc-mul, add-one, arith}
 use Rattle.std.specs.List.{flat_map}
 use Rattle.std.proofs.lemmas.List.FromFn.{map-range_with_len_more}
-use Rattle.std.proofs.lemmas.List.{length-append, length-map, length_push, take_all, take_more, take_more_set, get_or-map, flat_map_more}
-use Rattle.std.proofs.lemmas.Bool.{ltb-false}
-use Rattle.faults.specs.declared.PageFault.TheVariants.{LineBegun, NoRoom}
-use Rattle.faults.specs.declared.SheetFault.TheVariants.{Page, NoSheet}
+use Rattle.std.proofs.lemmas.List.{length-append, length-map, length_push, flat_map_more}
 use Rattle.kinds.specs.Kind.{Arithmetic}
 use Rattle.lines.specs.Line.{line_text}
-use Rattle.lines.specs.Page.{Model, between, with_text}
+use Rattle.lines.specs.Page.{Model, between, with_text, HasRoom}
 use Rattle.lines.proofs.Filling.{length_joined}
-use Rattle.sheets.specs.Cells.{needed, part, numbers, number_at, move_at, moves_at, contents_in}
+use Rattle.sheets.specs.Cells.{needed, part, numbers, move_at, moves_at, contents_in}
 use Rattle.sheets.specs.Sheet.{Model as SheetModel}
-use Rattle.sheets.specs.Showing.{show_length, show_refusal_lem, row_text, shown_text}
+use Rattle.sheets.specs.Showing.{show_length, row_text, shown_text}
 use Rattle.sheets.proofs.Laying.{over_append}
-use Rattle.sheets.proofs.Numbers.{length_numbers_part, number_of_part}
+use Rattle.sheets.proofs.Numbers.{length_numbers_part}
 use Rattle.sheets.proofs.Places.{column_in}
 use Rattle.sheets.proofs.Standing.{length_over}
 use Rattle.sheets.proofs.Walks.{over_nothing}
@@ -38,23 +35,7 @@ text_keeps m s h = length_over m.bytes s m.end h
 -- a sheet that can be shown has its cells, and the page can take all lines
 pub record Showable {C : Type 0} (m : SheetModel C) (p : Model) : Type 0 where
   pub cells : needed m.unknowns ≤ length m.cells
-  pub idle : p.begun ≡ false
-  pub room : p.end + show_length m ≤ length p.bytes
-
-pub showable : {C : Type 0} (m : SheetModel C) (p : Model) → show_refusal_lem m p ≡ None → Showable m p
-showable m p e = by p.begun (eqb m.unknowns 0) (ltb (length m.cells) (needed m.unknowns)) (ltb (length p.bytes) (p.end + show_length m)) refl refl refl e
-  where
-    by : (b z c t : Bool) → p.begun ≡ b → ltb (length m.cells) (needed m.unknowns) ≡ c → ltb (length p.bytes) (p.end + show_length m) ≡ t
-        → cond b (Some (Page LineBegun)) (cond (cond z false (cond c false true)) (cond t (Some (Page NoRoom)) None) (Some NoSheet)) ≡ None → Showable m p
-    by true z c t i f r e = let q : ◌≡◌ {A = ℕ} 0 1 = cc in absurd (omega arith)
-    by false true c t i f r e = let q : ◌≡◌ {A = ℕ} 0 1 = cc in absurd (omega arith)
-    by false false true t i f r e = let q : ◌≡◌ {A = ℕ} 0 1 = cc in absurd (omega arith)
-    by false false false true i f r e = let q : ◌≡◌ {A = ℕ} 0 1 = cc in absurd (omega arith)
-    by false false false false i f r e = record { cells = ltb-false (length m.cells) (needed m.unknowns) f; idle = i; room = ltb-false (length p.bytes) (p.end + show_length m) r }
-
--- the fixed plan and k moves lie within the needed cells
-pub main_needed : (n k : ℕ) → k ≤ n → n + k * n ≤ needed n
-main_needed n k h = let p : k * n ≤ n * n = mul-le-mul_right n h in omega (arith, mul-add n n 1, mul-one n, p)
+  pub page : HasRoom p (show_length m)
 
 module _ {N C : Type 0} (a : Arithmetic N C) where
   -- a line has 5 + 8 × n bytes with its line feed
@@ -65,25 +46,6 @@ module _ {N C : Type 0} (a : Arithmetic N C) where
       let j = length_joined ws in
       let p = length_push (line_text frame ws) 10 in
       omega (arith, j, p, lw)
-
-  module _ (cells : List C) (from n : ℕ) (room : from + n ≤ length cells) where
-    abbrev Words : List ℤ
-    Words = map a.write (numbers a (part from n cells))
-
-    -- one word more
-    pub words_more : (words : List ℤ) (i : ℕ) (x : N) (w : ℤ) → i < n → i < length words → take i words ≡ take i Words → x ≡ number_at a cells (from + i) → w ≡ a.write x → take (i + 1) (set words i w) ≡ take (i + 1) Words
-    words_more words i x w h hw e ex ew =
-        let ln = length_numbers_part a cells from n room in
-        let lw = length-map (numbers a (part from n cells)) a.write in
-        let v : w ≡ get_or Words i (pos 0)
-        = ew ∙ ap a.write (ex ∙ sym (number_of_part a cells from n i room h)) ∙ sym (get_or-map a.write (numbers a (part from n cells)) i a.zero (pos 0) (omega arith)) in
-        take_more_set words i w hw ∙ (λ j. e j ++ v j ∷ []) ∙ sym (take_more Words i (pos 0) (omega arith))
-
-    pub words_end : (words : List ℤ) (i : ℕ) → i ≡ n → take i words ≡ take i Words → take n words ≡ Words
-    words_end words i e s =
-        let ln = length_numbers_part a cells from n room in
-        let lw = length-map (numbers a (part from n cells)) a.write in
-        ap (λ (k : ℕ). take k words) (sym e) ∙ s ∙ take_all i Words (omega arith)
 
   -- the lines of the first moves
   abbrev pub move_texts : List C → ℕ → ℕ → List ℕ
@@ -133,10 +95,7 @@ module _ {N C : Type 0} (a : Arithmetic N C) where
           let p : j * (5 + 8 * n) ≤ k * (5 + 8 * n) = mul-le-mul_right (5 + 8 * n) h in
           omega (arith, e, b, t, q, p, fits)
 
-      pub rows_idle : (p : Model) (j : ℕ) → p ≡ with_text m1 (move_texts cells n j) → p.begun ≡ false
-      rows_idle p j e = ap (λ (x : Model). x.begun) e
-
-      pub rows_room : (p : Model) (j : ℕ) → j < k → p ≡ with_text m1 (move_texts cells n j) → p.end + (5 + 8 * n) ≤ length p.bytes
+      pub rows_room : (p : Model) (j : ℕ) → j < k → p ≡ with_text m1 (move_texts cells n j) → HasRoom p (5 + 8 * n)
       rows_room p j h e =
           let f = ap (λ (x : Model). x.end) e in
           let r = left_room j (omega arith) in
@@ -145,7 +104,7 @@ module _ {N C : Type 0} (a : Arithmetic N C) where
           let o = end_one in
           let q = suc-mul k (5 + 8 * n) in
           let c = column_in j k (5 + 8 * n) h in
-          omega (arith, f, b, t, o, q, c, fits)
+          record { idle = ap (λ (x : Model). x.begun) e; room = omega (arith, f, b, t, o, q, c, fits) }
 
       pub shows_more : (p q : Model) (j from : ℕ) → j < k → from ≡ n + j * n → p ≡ with_text m1 (move_texts cells n j) → q ≡ with_text p (row_text a 132 (numbers a (part from n cells))) → q ≡ with_text m1 (move_texts cells n (j + 1))
       shows_more p q j from h ef ep eq =

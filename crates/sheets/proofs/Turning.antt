@@ -8,7 +8,7 @@ use Rattle.plans.proofs.Falling.{enough, turn_falls}
 use Rattle.sheets.specs.Cells.{top_size}
 use Rattle.sheets.specs.Work.{columns_at, work_at, work_cells, rounds_at, Ended}
 use Rattle.sheets.specs.Combining.{Within}
-use Rattle.sheets.proofs.Limits.{within_trans, within_same}
+use Rattle.sheets.proofs.Limits.{within_trans}
 use Rattle.sheets.proofs.Rounding.{length_columns, column_of}
 
 largest_same : (f g : ℕ → ℕ) (s n : ℕ) → ((j : ℕ) → j < n → f j ≡ g j) → largest_of f s n ≡ largest_of g s n
@@ -73,9 +73,6 @@ pub record SoFar {N C : Type 0} (a : Arithmetic N C) (n p k : ℕ) (start now : 
   pub same : rounds_at a now n p k ≡ rounds_at a start n p k
 
 module _ {N C : Type 0} (a : Arithmetic N C) (laws : Laws a) (n p k : ℕ) where
-  pub far_start : (cs : List C) → SoFar a n p k cs cs
-  far_start cs = record { inside = within_same; same = refl }
-
   pub falls : (cs ds : List C) → turn a (work_at a cs n p k) ≡ again (work_at a ds n p k) → total_size a (columns_at a ds n (p + (n + 1)) k) < total_size a (columns_at a cs n (p + (n + 1)) k)
   falls cs ds e = turn_falls a laws (work_at a cs n p k) (work_at a ds n p k) e
 
@@ -113,6 +110,3 @@ module _ {N C : Type 0} (a : Arithmetic N C) (laws : Laws a) (n p k : ℕ) where
 
   pub far_stop : (start cs : List C) (l : ℕ) → SoFar a n p k start cs → turn a (work_at a cs n p k) ≡ stop l → Ended a n p k start (Ok l) cs
   far_stop start cs l f e = (sym f.same ∙ ap (on a (rounds a (total_size a (columns_at a cs n (p + (n + 1)) k))) (work_at a cs n p k)) e, stop_below cs l e, f.inside)
-
-  pub far_fail : (start cs : List C) → SoFar a n p k start cs → turn a (work_at a cs n p k) ≡ fail → rounds_at a start n p k ≡ None
-  far_fail start cs f e = sym f.same ∙ ap (on a (rounds a (total_size a (columns_at a cs n (p + (n + 1)) k))) (work_at a cs n p k)) e

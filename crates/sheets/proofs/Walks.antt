@@ -1,11 +1,10 @@
 -- A walk down two columns of cells, step by step.
-use Rattle.std.proofs.Common.{◌≡◌, ℕ, ◌+◌, ◌<◌, ◌≤◌, Bool, true, false, cond, ◌⊎◌, List, [], ◌∷◌, ◌++◌, length, get_or, take, drop, set, Some, None, Option, sym, refl, ap, ◌∙◌, inl, inr, ⊎_elim, add-zero, arith}
-use Rattle.std.proofs.lemmas.List.{append_assoc, length-append, length-map, length-take-le, length_push, length-replicate, replicate_more, take_all, get_or-map, get_or_append_left, get_or-append_right, get_or-take, get_or-drop, set_at, take_more, drop_more, take-append-drop, map-append}
+use Rattle.std.proofs.Common.{◌≡◌, ℕ, ◌+◌, ◌<◌, ◌≤◌, Bool, true, false, cond, ◌⊎◌, List, [], ◌∷◌, ◌++◌, map, length, get_or, take, drop, set, Some, None, Option, sym, refl, ap, ◌∙◌, inl, inr, ⊎_elim, add-zero, arith}
+use Rattle.std.proofs.lemmas.List.{append_assoc, length-append, length-map, length-take-le, length_push, get_or-map, get_or_append_left, get_or-append_right, get_or-take, get_or-drop, set_at, take_more, drop_more, take-append-drop, map-append}
 use Rattle.kinds.specs.Kind.{Arithmetic}
 use Rattle.lines.specs.Page.{over}
 use Rattle.plans.specs.Posting.{then, adds}
-use Rattle.sheets.specs.Cells.{part, number, numbers, held, number_at, zero_cells}
-use Rattle.sheets.specs.Combining.{base}
+use Rattle.sheets.specs.Cells.{part, number, numbers, held, number_at}
 use Rattle.sheets.proofs.Numbers.{length_numbers_part, number_of_part}
 
 -- what is put over some places leaves the others
@@ -39,6 +38,10 @@ over_push {X} cells s to x h =
     ∙ ap (λ (m : ℕ). (T ++ s) ++ x ∷ drop m cells) k
     ∙ append_assoc T s (x ∷ drop (to + length (s ++ x ∷ [])) cells)
     ∙ ap (λ (t : List X). T ++ t) (sym (append_assoc s (x ∷ []) (drop (to + length (s ++ x ∷ [])) cells)))
+
+-- the numbers, or as many zeros
+abbrev pub base : {N C : Type 0} → Arithmetic N C → Bool → List N → List N
+base a keep xs = cond keep xs (map (λ _. a.zero) xs)
 
 module _ {N C : Type 0} (a : Arithmetic N C) (q : N) where
   adds_push : (u v ys : List N) (x y r : N) → length u ≡ length v → adds a u q v ≡ Some ys → a.add_product x q y ≡ Some r → adds a (u ++ x ∷ []) q (v ++ y ∷ []) ≡ Some (ys ++ r ∷ [])
@@ -168,12 +171,6 @@ module _ {N C : Type 0} (a : Arithmetic N C) (q : N) (keep : Bool) (cells : List
   pub walk_only : (i : ℕ) (left : List C) → SoFar i left → (changed : List C) × ((length changed ≡ i) × (left ≡ over cells to changed))
   walk_only i left w = (held a w.ys, (length-map w.ys a.to_cell ∙ w.long, w.stand))
 
-  pub walk_end : (i : ℕ) (left : List C) → SoFar i left → i ≡ h → (ys : List N) × ((adds a U q V ≡ Some ys) × (left ≡ over cells to (held a ys)))
-  walk_end i left w e =
-      let tu = take_all i U (let l = length_U in omega arith) in
-      let tv = take_all i V (let l = length_V in omega arith) in
-      (w.ys, (sym (λ j. adds a (tu j) q (tv j)) ∙ w.sum, w.stand))
-
 -- copying a part, and putting zeros, cell by cell
 module _ {N C : Type 0} (a : Arithmetic N C) (cells : List C) (to : ℕ) where
   module _ (from n : ℕ) (ht : to + n ≤ length cells) (hf : from + n ≤ length cells) (apart : (to ≤ from) ⊎ (from + n ≤ to)) where
@@ -199,19 +196,3 @@ module _ {N C : Type 0} (a : Arithmetic N C) (cells : List C) (to : ℕ) where
 
     pub copy_start : cells ≡ over cells to (held a (take 0 Numbers))
     copy_start = sym (over_nothing cells to)
-
-    pub copy_end : (i : ℕ) (left : List C) → i ≡ n → left ≡ over cells to (held a (take i Numbers)) → left ≡ over cells to (held a Numbers)
-    copy_end i left e s = s ∙ ap (λ (xs : List N). over cells to (held a xs)) (take_all i Numbers (let l = length_numbers_part a cells from n hf in omega arith))
-
-  pub wipe_more : (i : ℕ) (left next : List C) (x : N) → to + i < length cells → left ≡ over cells to (zero_cells a i) → x ≡ a.zero → next ≡ set left (to + i) (a.to_cell x) → next ≡ over cells to (zero_cells a (i + 1))
-  wipe_more i left next x h s ex e =
-      let l = length-replicate i (a.to_cell a.zero) in
-      e
-      ∙ ap (λ (y : List C). set y (to + i) (a.to_cell x)) s
-      ∙ ap (λ (y : N). set (over cells to (zero_cells a i)) (to + i) (a.to_cell y)) ex
-      ∙ ap (λ (m : ℕ). set (over cells to (zero_cells a i)) (to + m) (a.to_cell a.zero)) (sym l)
-      ∙ over_push cells (zero_cells a i) to (a.to_cell a.zero) (omega arith)
-      ∙ ap (over cells to) (replicate_more i (a.to_cell a.zero))
-
-  pub wipe_start : cells ≡ over cells to (zero_cells a 0)
-  wipe_start = sym (over_nothing cells to)

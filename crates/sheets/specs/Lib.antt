@@ -2,6 +2,7 @@ pub mod Cells
 pub mod Combining
 pub mod Posted
 pub mod Work
+pub mod Table
 pub mod Sheet
 pub mod Words
 pub mod Showing

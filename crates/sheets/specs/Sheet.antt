@@ -69,6 +69,11 @@ module _ {N C : Type 0} (a : Arithmetic N C) where
 abbrev pub stands : {C : Type 0} → Model C → Bool
 stands m = cond (m.unknowns == 0) false (cond (nat_lt (length m.cells) (needed m.unknowns)) false true)
 
+-- done, unless there is a fault
+abbrev pub done_unless : Option SheetFault → Result Unit SheetFault
+done_unless (Some fault) = Err fault
+done_unless None = Ok tt
+
 -- the fault of a word that is not admitted, by its index
 abbrev pub word_fault : Option ℕ → Option SheetFault
 word_fault (Some i) = Some (Number (NotAdmitted i))

@@ -1,5 +1,5 @@
 -- What a sheet shows: a line for its fixed plan, and one for each move. Assumes nothing.
-use Rattle.std.specs.Prelude.{ℕ, ◌+◌, ◌*◌, cond, List, [], ◌∷◌, ◌++◌, map, length, Some, None, Ok, Err, Option, Result, nat_lt}
+use Rattle.std.specs.Prelude.{ℕ, ◌+◌, ◌*◌, cond, List, [], ◌∷◌, ◌++◌, map, length, Some, None, Option, Result, nat_lt}
 use Rattle.std.specs.List.{flat_map}
 use Rattle.faults.specs.declared.PageFault.TheVariants.{LineBegun, NoRoom}
 use Rattle.faults.specs.declared.SheetFault.{SheetFault}
@@ -9,7 +9,7 @@ use Rattle.lines.specs.Line.{line_text}
 use Rattle.lines.specs.Page.{Model as PageModel, with_text}
 use Rattle.plans.specs.Sheet.{Contents}
 use Rattle.sheets.specs.Cells.{contents_in}
-use Rattle.sheets.specs.Sheet.{Model, stands}
+use Rattle.sheets.specs.Sheet.{Model, stands, done_unless}
 
 -- how many bytes the lines of a showing have: 5 + 8 × n each, with the line feed
 abbrev pub show_length : {C : Type 0} → Model C → ℕ
@@ -20,10 +20,6 @@ abbrev pub show_refusal_lem : {C : Type 0} → Model C → PageModel → Option 
 show_refusal_lem m p =
     cond p.begun (Some (Page LineBegun))
     (cond (stands m) (cond (nat_lt (length p.bytes) (p.end + show_length m)) (Some (Page NoRoom)) None) (Some NoSheet))
-
-abbrev pub done_unless : Option SheetFault → Result Unit SheetFault
-done_unless (Some fault) = Err fault
-done_unless None = Ok tt
 
 -- the answer to a showing
 abbrev pub show_answer : {C : Type 0} → Model C → PageModel → Result Unit SheetFault

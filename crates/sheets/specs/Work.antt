@@ -54,15 +54,17 @@ module _ {N C : Type 0} (a : Arithmetic N C) where
   Ended n p k before (Ok l) after = (rounds_at before n p k ≡ Some (l, work_at a after n p k)) × (l < k) × Within p (work_cells n k) before after
   Ended n p k before (Err _) after = (rounds_at before n p k ≡ None) × Within p (work_cells n k) before after
 
-  -- the moves' columns below their tops came, or none came
+  -- the moves' columns below their tops came, behind column B, or none came
   abbrev pub Topped : List N → ℕ → ℕ → ℕ → List C → Result Unit Overflow → List C → Type 0
-  Topped cs n p k before (Ok _) after = (topped a cs (moves_at a before n k) ≡ Some (columns_at a after n p k)) × Within p (k * (n + 1)) before after
-  Topped cs n p k before (Err _) after = (topped a cs (moves_at a before n k) ≡ None) × Within p (k * (n + 1)) before after
+  Topped cs n p k before (Ok _) after =
+      (topped a cs (moves_at a before n k) ≡ Some (columns_at a after n (p + (n + 1)) k)) × Within (p + (n + 1)) (k * (n + 1)) before after
+  Topped cs n p k before (Err _) after = (topped a cs (moves_at a before n k) ≡ None) × Within (p + (n + 1)) (k * (n + 1)) before after
 
-  -- the columns, normalised, came, or none came
+  -- the moves' columns, normalised, came, or none came
   abbrev pub Normal : ℕ → ℕ → ℕ → List C → Result Unit Overflow → List C → Type 0
-  Normal n p k before (Ok _) after = (normalised a (columns_at a before n p k) ≡ Some (columns_at a after n p k)) × Within p (k * (n + 1)) before after
-  Normal n p k before (Err _) after = (normalised a (columns_at a before n p k) ≡ None) × Within p (k * (n + 1)) before after
+  Normal n p k before (Ok _) after =
+      (normalised a (columns_at a before n (p + (n + 1)) k) ≡ Some (columns_at a after n (p + (n + 1)) k)) × Within (p + (n + 1)) (k * (n + 1)) before after
+  Normal n p k before (Err _) after = (normalised a (columns_at a before n (p + (n + 1)) k) ≡ None) × Within (p + (n + 1)) (k * (n + 1)) before after
 
   -- a column laid at p, of a top and the numbers from `from` on
   abbrev pub Laid : ℕ → ℕ → N → ℕ → List C → List C → Type 0
@@ -70,10 +72,10 @@ module _ {N C : Type 0} (a : Arithmetic N C) where
 
   -- B reduced by the pivot l came to the new fixed plan, or to no plan, or overflowed
   abbrev pub Finished : Outcome N → ℕ → ℕ → ℕ → ℕ → List C → Result Bool Overflow → List C → Type 0
-  Finished o n p k l before (Ok true) after =
+  Finished o l n p k before (Ok true) after =
       (o ≡ taken (record { fixed = numbers a (part (p + 1) n after); moves = map (λ c. c.low) (without (columns_at a before n (p + (n + 1)) k) l) })) × Only (p + 1) n before after
-  Finished o n p k l before (Ok false) after = (o ≡ contradicted) × (after ≡ before)
-  Finished o n p k l before (Err _) after = (o ≡ overflow) × Within p (work_cells n k) before after
+  Finished o l n p k before (Ok false) after = (o ≡ contradicted) × (after ≡ before)
+  Finished o l n p k before (Err _) after = (o ≡ overflow) × Within p (work_cells n k) before after
 
   -- what is left once B's entries are the fixed plan and the pivot l is dropped
   abbrev pub left_at : List C → ℕ → ℕ → ℕ → ℕ → Contents N

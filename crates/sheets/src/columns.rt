@@ -1,10 +1,14 @@
-// Columns in cells: each has its top in one cell, and its n entries in those behind.
-ghost use Rattle.std.specs.Prelude.{◌≡◌, ◌+◌, ◌*◌, ◌<◌, ◌≤◌, ◌⊎◌, length, ◌==◌};
-ghost use Rattle.plans.specs.Posting.{adds_column, blank, reduced, total_size};
+// The columns of a posting: each has its top in one cell, and its n entries in those behind.
+// Functions of one column take the cells and no table, whose invariant they do not need; moves are told by number, since a
+// step reads one part of the cells and writes another.
+ghost use Rattle.std.specs.Prelude.{◌≡◌, ◌+◌, ◌≤◌, ◌⊎◌, length};
+ghost use Rattle.plans.specs.Posting.{adds_column, blank, reduced};
 ghost use Rattle.sheets.specs.Words.{numbers_of};
-ghost use Rattle.sheets.specs.Work.{column_at, columns_at, CameAt, Laid, Topped, Normal};
+ghost use Rattle.sheets.specs.Table.{Step};
+ghost use Rattle.sheets.specs.Work.{column_at, CameAt, Laid, Topped, Normal};
 
-use crate::cells::{Overflow, combine, copy, move_place, place, read, running_sum, top, write};
+use crate::cells::{Overflow, combine, copy, read, scale, write};
+use crate::table::Table;
 use kinds::kind::Kind;
 
 // Adds q × the column at `from` to the column at `to`.
@@ -20,7 +24,7 @@ fn add_column<K: Kind>(
     requires apart { (to + (n + 1) ≤ from) ⊎ (from + (n + 1) ≤ to) }
     ensures { CameAt K.Kind.arith (adds_column K.Kind.arith (column_at K.Kind.arith cells.old n to) q (column_at K.Kind.arith cells.old n from)) n to cells.old result cells.new }
 {
-    combine(cells, to, from, n + 1, q, true)
+    combine(cells, to, from, n + 1, q)
 }
 
 // Multiplies the column at `at` by u.
@@ -33,7 +37,7 @@ pub(crate) fn scale_column<K: Kind>(
     requires { at + (n + 1) ≤ length cells.old }
     ensures { CameAt K.Kind.arith (adds_column K.Kind.arith (blank K.Kind.arith (column_at K.Kind.arith cells.old n at)) u (column_at K.Kind.arith cells.old n at)) n at cells.old result cells.new }
 {
-    combine(cells, at, at, n + 1, u, false)
+    scale(cells, at, n + 1, u)
 }
 
 // Takes from the column at `to` the column at `by` × the quotient of their tops.
@@ -49,11 +53,8 @@ pub(crate) fn reduce<K: Kind>(
     ensures { CameAt K.Kind.arith (reduced K.Kind.arith (column_at K.Kind.arith cells.old n to) (column_at K.Kind.arith cells.old n by)) n to cells.old result cells.new }
 {
     let c = read::<K>(cells, to);
-    let d = read::<K>(cells, by);
-    match c.quotient(d) {
-        Some(q) => add_column(cells, to, by, n, q.negative()),
-        None => Err(Overflow),
-    }
+    let q = c.quotient(read::<K>(cells, by)).ok_or(Overflow)?;
+    add_column(cells, to, by, n, q.negative())
 }
 
 // Lays a column at `to`: a top, and below it the n numbers from `from` on.
@@ -66,56 +67,42 @@ pub(crate) fn lay_column<K: Kind>(cells: &mut [K::Cell], to: usize, top: K, from
     copy::<K>(cells, to + 1, from, n);
 }
 
-// Lays the moves below their tops, the first at `first`: the top of each is the running sum of coefficient × entry.
-pub(crate) fn lay_moves<K: Kind>(
-    coefficients: &[i32],
-    cells: &mut [K::Cell],
-    first: usize,
-    count: usize,
-) -> Result<(), Overflow>
-    requires main { length coefficients.now + count * length coefficients.now ≤ first }
-    requires room { first + count * (length coefficients.now + 1) ≤ length cells.old }
-    ensures { Topped K.Kind.arith (numbers_of K.Kind.arith coefficients.now) (length coefficients.now) first count cells.old result cells.new }
-{
-    let n = coefficients.len();
-    for j in 0..count {
-        let from = move_place(n, count, j, first);
-        let Some(top) = running_sum::<K>(coefficients, cells, from, K::zero()) else {
-            return Err(Overflow);
-        };
-        let to = place(first, n, count, j, cells.len());
-        lay_column(cells, to, top, from, n);
-    }
-    Ok(())
-}
-
-// Multiplies each column by the unit of its top.
-pub(crate) fn normalise<K: Kind>(
-    cells: &mut [K::Cell],
-    first: usize,
-    n: usize,
-    count: usize,
-) -> Result<(), Overflow>
-    requires { first + count * (n + 1) ≤ length cells.old }
-    ensures { Normal K.Kind.arith n first count cells.old result cells.new }
-{
-    for j in 0..count {
-        let at = place(first, n, count, j, cells.len());
-        let u = read::<K>(cells, at).unit();
-        scale_column(cells, at, n, u)?;
-    }
-    Ok(())
-}
-
-// Whether every top has size 0.
-pub(crate) fn all_zero<K: Kind>(cells: &[K::Cell], first: usize, n: usize, count: usize) -> bool
-    requires { first + count * (n + 1) ≤ length cells.now }
-    ensures { result ≡ (total_size K.Kind.arith (columns_at K.Kind.arith cells.now n first count) == 0) }
-{
-    for j in 0..count {
-        if !top::<K>(cells, first, n, count, j).is_zero() {
-            return false;
+impl<K: Kind> Table<'_, K> {
+    // Lays the moves below their tops: the top of each is the running sum of coefficient × entry.
+    // Moves are told by number: the row of one is read while its column is written.
+    pub(crate) fn lay_moves(&mut self, coefficients: &[i32]) -> Result<(), Overflow>
+        requires { length coefficients.now ≡ self.old.shape.unknowns }
+        ensures held { self.new.cells.ghost_name ≡ self.old.cells.ghost_name }
+        ensures shape { self.new.shape ≡ self.old.shape }
+        ensures laid { Step (Topped K.Kind.arith (numbers_of K.Kind.arith coefficients.now)) self.old result self.new }
+    {
+        for j in 0..self.shape.moves {
+            let from = self.shape.row(j);
+            let top = self
+                .running_sum(coefficients, from, K::zero())
+                .ok_or(Overflow)?;
+            lay_column(
+                self.cells,
+                self.shape.column(j),
+                top,
+                from,
+                self.shape.unknowns,
+            );
         }
+        Ok(())
     }
-    true
+
+    // Multiplies each move's column by the unit of its top.
+    // Moves are told by number: the table's own methods read the top before the column is written.
+    pub(crate) fn normalise(&mut self) -> Result<(), Overflow>
+        ensures held { self.new.cells.ghost_name ≡ self.old.cells.ghost_name }
+        ensures shape { self.new.shape ≡ self.old.shape }
+        ensures normal { Step (Normal K.Kind.arith) self.old result self.new }
+    {
+        for j in 0..self.shape.moves {
+            let u = self.top(j).unit();
+            scale_column(self.cells, self.shape.column(j), self.shape.unknowns, u)?;
+        }
+        Ok(())
+    }
 }

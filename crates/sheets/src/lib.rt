@@ -12,4 +12,6 @@ mod rounds;
 pub mod shape;
 pub mod sheet;
 mod showing;
+mod sums;
+mod table;
 mod words;

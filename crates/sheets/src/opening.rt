@@ -1,14 +1,17 @@
 // Laying a new sheet into lent cells.
-ghost use Rattle.std.specs.Prelude.{◌≡◌, ◌+◌, ◌*◌, ◌<◌, ◌≤◌, [], length, slice_index_or};
+ghost use Rattle.std.specs.Prelude.{◌≡◌, ◌+◌, ◌<◌, ◌≤◌, [], length, slice_index_or};
 ghost use Rattle.std.specs.List.{flat_map};
 ghost use Rattle.plans.specs.Sheet.{unit_moves, new_sheet};
 ghost use Rattle.sheets.specs.Cells.{held, needed, sheet_cells};
 ghost use Rattle.lines.specs.Page.{over};
 
-use crate::cells::{move_place, wipe, write};
+use crate::cells::{wipe, write};
+use crate::shape::Shape;
+use crate::table::Table;
 use kinds::kind::Kind;
 
 // Lays move j of a new sheet of n unknowns into the cells from `from` on: 1 at unknown j and 0 elsewhere.
+// Its bound is kept as a `requires`, as those of all work on cells.
 fn lay_unit<K: Kind>(cells: &mut [K::Cell], from: usize, n: usize, j: usize)
     requires room { from + n ≤ length cells.old }
     requires there { j < n }
@@ -18,25 +21,47 @@ fn lay_unit<K: Kind>(cells: &mut [K::Cell], from: usize, n: usize, j: usize)
     write(cells, from + j, K::one());
 }
 
-// Lays the moves of a new sheet, one behind another behind the fixed plan.
-fn lay_units<K: Kind>(cells: &mut [K::Cell], n: usize)
-    requires small { n ≤ 24 }
-    requires room { n + n * n ≤ length cells.old }
-    ensures { cells.new ≡ over cells.old n (held K.Kind.arith (flat_map (λ move. move) (unit_moves K.Kind.arith n))) }
-{
-    for j in 0..n {
-        let from = move_place(n, n, j, cells.len());
-        lay_unit::<K>(cells, from, n, j);
+impl<K: Kind> Table<'_, K> {
+    // Lays the moves of a new sheet, one behind another behind the fixed plan.
+    // Moves are told by number, which also says where the 1 of a move stands.
+    fn lay_units(&mut self)
+        requires { self.old.shape.moves ≡ self.old.shape.unknowns }
+        ensures held { self.new.cells.ghost_name ≡ self.old.cells.ghost_name }
+        ensures shape { self.new.shape ≡ self.old.shape }
+        ensures cells { self.new.cells.now ≡ over self.old.cells.now self.old.shape.unknowns (held K.Kind.arith (flat_map (λ move. move) (unit_moves K.Kind.arith self.old.shape.unknowns))) }
+    {
+        for j in 0..self.shape.moves {
+            lay_unit::<K>(self.cells, self.shape.row(j), self.shape.unknowns, j);
+        }
+    }
+
+    // Lays the new sheet.
+    pub(crate) fn lay_new(&mut self)
+        requires { self.old.shape.moves ≡ self.old.shape.unknowns }
+        ensures held { self.new.cells.ghost_name ≡ self.old.cells.ghost_name }
+        ensures shape { self.new.shape ≡ self.old.shape }
+        ensures cells { self.new.cells.now ≡ sheet_cells K.Kind.arith self.old.shape.unknowns (new_sheet K.Kind.arith self.old.shape.unknowns) self.old.cells.now }
+    {
+        let n = self.shape.unknowns;
+        wipe::<K>(self.cells, 0, n);
+        self.lay_units();
+        wipe::<K>(self.cells, self.shape.spare(), (n + 1) * (n + 1));
     }
 }
 
-// Lays the new sheet of n unknowns.
-pub(crate) fn lay_new<K: Kind>(cells: &mut [K::Cell], n: usize)
+// Lays the new sheet of n unknowns into cells that suffice for it; answers its shape.
+pub(crate) fn lay_sheet<K: Kind>(cells: &mut [K::Cell], n: usize) -> Shape
     requires small { n ≤ 24 }
     requires room { needed n ≤ length cells.old }
-    ensures { cells.new ≡ sheet_cells K.Kind.arith n (new_sheet K.Kind.arith n) cells.old }
+    ensures unknowns { result.unknowns ≡ n }
+    ensures moves { result.moves ≡ n }
+    ensures cells { cells.new ≡ sheet_cells K.Kind.arith n (new_sheet K.Kind.arith n) cells.old }
 {
-    wipe::<K>(cells, 0, n);
-    lay_units::<K>(cells, n);
-    wipe::<K>(cells, n * (n + 1), (n + 1) * (n + 1));
+    let shape = Shape {
+        unknowns: n,
+        moves: n,
+    };
+    let mut table = Table::<K> { cells, shape };
+    table.lay_new();
+    shape
 }

@@ -1,21 +1,22 @@
-// Posting an equation's numbers to the cells of a sheet.
-ghost use Rattle.std.specs.Prelude.{◌≡◌, ◌+◌, ◌*◌, ◌≤◌, length};
+// Posting an equation's numbers to the table of a sheet.
+ghost use Rattle.std.specs.Prelude.{◌≡◌, ◌+◌, ◌≤◌, length, take, pos, slice_index_or};
 ghost use Rattle.faults.specs.declared.SheetFault.TheVariants.{Overflow as Overflowed};
-ghost use Rattle.plans.specs.Posting.{posted, worked, normalised};
-ghost use Rattle.sheets.specs.Cells.{needed, contents_in};
+ghost use Rattle.plans.specs.Posting.{worked, normalised};
+ghost use Rattle.sheets.specs.Cells.{needed};
 ghost use Rattle.sheets.specs.Posted.{answer_of_lem, cells_after, Prepared, Settled};
-ghost use Rattle.sheets.specs.Words.{numbers_of};
-ghost use Rattle.sheets.specs.Work.{work_cells, column_at, columns_at};
+ghost use Rattle.sheets.specs.Table.{Step, B_of, columns_of, outcome_in, outcome_on};
+ghost use Rattle.sheets.specs.Words.{number_of, numbers_of};
 
-use crate::cells::{Overflow, read, running_sum, wipe};
-use crate::columns::{all_zero, lay_column, lay_moves, normalise};
-use crate::finishing::{close_up, finish};
-use crate::rounds::rounds;
+use crate::cells::{Overflow, wipe};
+use crate::columns::lay_column;
+use crate::shape::Shape;
+use crate::table::Table;
+use crate::words::word_number;
 use faults::SheetFault;
 use kinds::kind::Kind;
 
 // What came of a posting that is not refused.
-#[derive(Clone, Copy)]
+#[derive(Clone, Copy, Debug, PartialEq, Eq)]
 pub enum Verdict {
     // The equation is in force from now on.
     Taken,
@@ -31,91 +32,84 @@ impl From<Overflow> for SheetFault {
     }
 }
 
-// Lays column B and the moves' columns below their tops.
-fn prepare<K: Kind>(
-    coefficients: &[i32],
-    right: K,
-    cells: &mut [K::Cell],
-    at: usize,
-    count: usize,
-) -> Result<(), Overflow>
-    requires main { length coefficients.now + count * length coefficients.now ≤ at }
-    requires room { at + work_cells K.Kind.arith (length coefficients.now) count ≤ length cells.old }
-    ensures { Prepared K.Kind.arith (numbers_of K.Kind.arith coefficients.now) right (length coefficients.now) at count cells.old result cells.new }
-{
-    let n = coefficients.len();
-    lay_moves::<K>(coefficients, cells, at + (n + 1), count)?;
-    let Some(top) = running_sum::<K>(coefficients, cells, 0, right.negative()) else {
-        return Err(Overflow);
-    };
-    lay_column(cells, at, top, 0, n);
-    Ok(())
-}
-
-// Works the columns down to one pivot, and writes back what is left where the equation is taken.
-fn settle<K: Kind>(
-    cells: &mut [K::Cell],
-    at: usize,
-    n: usize,
-    count: usize,
-) -> Result<Verdict, SheetFault>
-    requires place { at ≡ n * (n + 1) }
-    requires few { count ≤ n }
-    requires small { n ≤ 24 }
-    requires room { at + work_cells K.Kind.arith n count ≤ length cells.old }
-    ensures { Settled K.Kind.arith (worked K.Kind.arith (column_at K.Kind.arith cells.old n at) (normalised K.Kind.arith (columns_at K.Kind.arith cells.old n (at + (n + 1)) count))) n at count cells.old result cells.new }
-{
-    normalise::<K>(cells, at + (n + 1), n, count)?;
-    let pivot = rounds::<K>(cells, at, n, count)?;
-    let met = finish::<K>(cells, at, n, count, pivot)?;
-    if !met {
-        return Err(SheetFault::Contradicted);
+// An equation is given by its words, the coefficients and then the right side.
+// Their count is kept as a `requires`: it ties the words of a call to the table, and belongs to neither alone.
+impl<K: Kind> Table<'_, K> {
+    // Lays column B and the moves' columns below their tops.
+    fn prepare(&mut self, words: &[i32]) -> Result<(), Overflow>
+        requires { length words.now ≡ self.old.shape.unknowns + 1 }
+        ensures held { self.new.cells.ghost_name ≡ self.old.cells.ghost_name }
+        ensures shape { self.new.shape ≡ self.old.shape }
+        ensures prepared { Step (Prepared K.Kind.arith (numbers_of K.Kind.arith (take self.old.shape.unknowns words.now)) (number_of K.Kind.arith (slice_index_or words.now self.old.shape.unknowns (pos 0)))) self.old result self.new }
+    {
+        let n = self.shape.unknowns;
+        let coefficients = &words[..n];
+        self.lay_moves(coefficients)?;
+        let start = word_number::<K>(words[n]).negative();
+        let top = self.running_sum(coefficients, 0, start).ok_or(Overflow)?;
+        lay_column(self.cells, self.shape.spare(), top, 0, n);
+        Ok(())
     }
-    close_up::<K>(cells, at, n, count, pivot);
-    Ok(Verdict::Taken)
-}
 
-// Works a posting out in the spare cells, which are left as they may be.
-fn work<K: Kind>(
-    coefficients: &[i32],
-    right: K,
-    cells: &mut [K::Cell],
-    at: usize,
-    count: usize,
-) -> Result<Verdict, SheetFault>
-    requires place { at ≡ length coefficients.now * (length coefficients.now + 1) }
-    requires few { count ≤ length coefficients.now }
-    requires small { length coefficients.now ≤ 24 }
-    requires room { at + work_cells K.Kind.arith (length coefficients.now) count ≤ length cells.old }
-    ensures { Settled K.Kind.arith (posted K.Kind.arith (contents_in K.Kind.arith (length coefficients.now) count cells.old) (numbers_of K.Kind.arith coefficients.now) right) (length coefficients.now) at count cells.old result cells.new }
-{
-    prepare::<K>(coefficients, right, cells, at, count)?;
-    let n = coefficients.len();
-    if all_zero::<K>(cells, at + (n + 1), n, count) {
-        if read::<K>(cells, at).is_zero() {
-            return Ok(Verdict::Implied);
+    // Works the columns down to one pivot, and writes back what is left where the equation is taken.
+    fn settle(&mut self) -> Result<Verdict, SheetFault>
+        ensures held { self.new.cells.ghost_name ≡ self.old.cells.ghost_name }
+        ensures shape { self.new.shape ≡ self.old.shape }
+        ensures settled { Step (Settled K.Kind.arith (worked K.Kind.arith (B_of self.old) (normalised K.Kind.arith (columns_of self.old)))) self.old result self.new }
+    {
+        self.normalise()?;
+        let pivot = self.rounds()?;
+        let met = self.finish(pivot)?;
+        if !met {
+            return Err(SheetFault::Contradicted);
         }
-        return Err(SheetFault::Contradicted);
+        self.close_up(pivot);
+        Ok(Verdict::Taken)
     }
-    settle::<K>(cells, at, n, count)
+
+    // Works a posting out in the spare cells, which are left as they may be.
+    fn work(&mut self, words: &[i32]) -> Result<Verdict, SheetFault>
+        requires { length words.now ≡ self.old.shape.unknowns + 1 }
+        ensures held { self.new.cells.ghost_name ≡ self.old.cells.ghost_name }
+        ensures shape { self.new.shape ≡ self.old.shape }
+        ensures settled { Step (Settled K.Kind.arith (outcome_on self.old words.now)) self.old result self.new }
+    {
+        self.prepare(words)?;
+        if self.all_zero() {
+            if self.number(self.shape.spare()).is_zero() {
+                return Ok(Verdict::Implied);
+            }
+            return Err(SheetFault::Contradicted);
+        }
+        self.settle()
+    }
+
+    // Posts an equation. The shape is kept: the caller counts the moves of the sheet.
+    pub(crate) fn post(&mut self, words: &[i32]) -> Result<Verdict, SheetFault>
+        requires { length words.now ≡ self.old.shape.unknowns + 1 }
+        ensures held { self.new.cells.ghost_name ≡ self.old.cells.ghost_name }
+        ensures shape { self.new.shape ≡ self.old.shape }
+        ensures value { result ≡ answer_of_lem (outcome_on self.old words.now) }
+        ensures cells { self.new.cells.now ≡ cells_after K.Kind.arith (outcome_on self.old words.now) self.old.shape.unknowns self.old.cells.now }
+    {
+        let verdict = self.work(words);
+        let n = self.shape.unknowns;
+        wipe::<K>(self.cells, self.shape.spare(), (n + 1) * (n + 1));
+        verdict
+    }
 }
 
-// Posts an equation's numbers to a sheet of n unknowns, n being the number of coefficients, and `count` moves.
-pub(crate) fn post_numbers<K: Kind>(
-    coefficients: &[i32],
-    right: K,
+// Posts an equation to the sheet of a shape that stands in the cells.
+pub(crate) fn post_words<K: Kind>(
     cells: &mut [K::Cell],
-    count: usize,
+    shape: Shape,
+    words: &[i32],
 ) -> Result<Verdict, SheetFault>
-    requires few { count ≤ length coefficients.now }
-    requires small { length coefficients.now ≤ 24 }
-    requires room { needed (length coefficients.now) ≤ length cells.old }
-    ensures value { result ≡ answer_of_lem (posted K.Kind.arith (contents_in K.Kind.arith (length coefficients.now) count cells.old) (numbers_of K.Kind.arith coefficients.now) right) }
-    ensures after { cells.new ≡ cells_after K.Kind.arith (posted K.Kind.arith (contents_in K.Kind.arith (length coefficients.now) count cells.old) (numbers_of K.Kind.arith coefficients.now) right) (length coefficients.now) cells.old }
+    requires room { needed shape.unknowns ≤ length cells.old }
+    requires exact { length words.now ≡ shape.unknowns + 1 }
+    ensures value { result ≡ answer_of_lem (outcome_in K.Kind.arith shape cells.old words.now) }
+    ensures cells { cells.new ≡ cells_after K.Kind.arith (outcome_in K.Kind.arith shape cells.old words.now) shape.unknowns cells.old }
 {
-    let n = coefficients.len();
-    let at = n * (n + 1);
-    let answer = work::<K>(coefficients, right, cells, at, count);
-    wipe::<K>(cells, at, (n + 1) * (n + 1));
-    answer
+    let mut table = Table::<K> { cells, shape };
+    table.post(words)
 }

@@ -1,13 +1,42 @@
-// How large a sheet is, and what it is besides its cells.
-ghost use Rattle.std.specs.Prelude.{◌≡◌, ◌≤◌};
+// How large a sheet is, where its parts stand in its cells, and what it is besides them.
+ghost use Rattle.std.specs.Prelude.{◌≡◌, ◌+◌, ◌*◌, ◌<◌, ◌≤◌};
+ghost use Rattle.sheets.specs.Cells.{main_cells, needed};
 
 #[derive(Clone, Copy)]
 pub struct Shape {
-    // None where the sheet could not be opened.
+    // 0 where the sheet could not be opened: opening is public and cannot fail.
     pub(crate) unknowns: usize,
     pub(crate) moves: usize,
     ghost small: { unknowns ≤ 24 },
     ghost few: { moves ≤ unknowns },
+}
+
+impl Shape {
+    // Where the spare cells begin, and in them column B.
+    pub(crate) fn spare(self) -> usize
+        ensures value { result ≡ main_cells self.unknowns }
+        ensures within { result + (self.unknowns + 1) ≤ needed self.unknowns }
+    {
+        self.unknowns * (self.unknowns + 1)
+    }
+
+    // Where the column of move j has its top, behind column B.
+    pub(crate) fn column(self, j: usize) -> usize
+        requires { j < self.moves }
+        ensures value { result ≡ main_cells self.unknowns + (self.unknowns + 1) + j * (self.unknowns + 1) }
+        ensures within { result + (self.unknowns + 1) ≤ needed self.unknowns }
+    {
+        self.spare() + (self.unknowns + 1) + j * (self.unknowns + 1)
+    }
+
+    // Where move j begins, behind the fixed plan.
+    pub(crate) fn row(self, j: usize) -> usize
+        requires { j < self.moves }
+        ensures value { result ≡ self.unknowns + j * self.unknowns }
+        ensures within { result + self.unknowns ≤ main_cells self.unknowns }
+    {
+        self.unknowns + j * self.unknowns
+    }
 }
 
 // What a sheet is besides its cells: how large it is, and the list of unknowns that it is about.

@@ -1,49 +1,47 @@
 // A sheet over lent cells, and its calls.
-ghost use Rattle.std.specs.Prelude.{◌≡◌, [], length, IfNone, None, FitsSigned};
+ghost use Rattle.std.specs.Prelude.{◌≡◌, [], length, OnOk, None, FitsSigned};
 ghost use Rattle.std.specs.Int.{w32};
 ghost use Rattle.std.specs.List.{AllByRecursion};
 ghost use Rattle.sheets.specs.Clearing.{clear_answer, clear_left};
 ghost use Rattle.sheets.specs.Law.{StandsFor, Sound, SpareZero, RefusalsExact, PostLaw, ClearLaw, PickLaw};
 ghost use Rattle.sheets.specs.Picking.{pick_refusal_lem as pick_refusal_of, pick_answer, pick_left};
-ghost use Rattle.sheets.specs.Sheet.{model, model_of, outline_of, asked as asked_of, checked, opened, stands as stands_of, post_refusal_lem as post_refusal_of, post_answer, post_left};
+ghost use Rattle.sheets.specs.Sheet.{model, model_of, outline_of, asked as asked_of, checked, opened, stands as stands_of, done_unless, post_refusal_lem as post_refusal_of, post_answer, post_left};
 ghost use Rattle.lines.specs.Page.{model as page_model};
-ghost use Rattle.sheets.specs.Showing.{show_refusal_lem as show_refusal_of, show_answer, show_left};
+ghost use Rattle.sheets.specs.Showing.{show_answer, show_left};
 
 use crate::cells::needed_cells;
-use crate::opening::lay_new;
-use crate::picking::plan_words;
-use crate::posting::{Verdict, post_numbers};
+use crate::opening::lay_sheet;
+use crate::posting::{Verdict, post_words};
 use crate::shape::{Outline, Shape};
-use crate::showing::write_rows;
-use crate::words::{first_refused, word_number};
+use crate::words::check_words;
 use faults::{NumberFault, SheetFault};
 use kinds::kind::Kind;
 use lines::page::Page;
 
+// Kept without an `impl Model`: as with a page, callers also need to know whose cells it holds.
 #[derive(Drop)]
 pub struct Sheet<'a, K: Kind> {
-    // The fixed plan, the moves in order, and the spare cells; there may be more behind them.
-    cells: &'a mut [K::Cell],
-    shape: Shape,
+    // The fixed plan, the moves in order, and the spare cells; there may be more behind them. Shape and list number are kept
+    // apart, as the landed definition `model` reads them.
+    pub(crate) cells: &'a mut [K::Cell],
+    pub(crate) shape: Shape,
     // Names the list of unknowns that the sheet's equations are about.
     list: u16,
 }
 
-// The number of unknowns and the list number that an opening asks for.
+// The number of unknowns and the list number that an opening asks for. Kept as two parameters: `check` and `open` landed so.
 fn asked(unknowns: i32, list: i32, len: usize) -> Result<(usize, u16), SheetFault>
     ensures { result ≡ asked_of unknowns list len }
 {
-    if unknowns < 1 || unknowns > 24 {
+    if !(1..=24).contains(&unknowns) {
         return Err(SheetFault::Number(NumberFault::Unknowns));
     }
-    if list < 0 || list > 65535 {
-        return Err(SheetFault::Number(NumberFault::ListNumber));
-    }
+    let list = u16::try_from(list).map_err(|_| SheetFault::Number(NumberFault::ListNumber))?;
     let n = unknowns as usize;
     if len < needed_cells(n) {
         return Err(SheetFault::FewCells);
     }
-    Ok((n, list as u16))
+    Ok((n, list))
 }
 
 // Whether a sheet can be opened, and if not, why.
@@ -65,15 +63,8 @@ impl<'a, K: Kind> Sheet<'a, K> {
     {
         match asked(unknowns, list, cells.len()) {
             Ok((n, list)) => {
-                lay_new::<K>(cells, n);
-                Sheet {
-                    cells,
-                    shape: Shape {
-                        unknowns: n,
-                        moves: n,
-                    },
-                    list,
-                }
+                let shape = lay_sheet::<K>(cells, n);
+                Sheet { cells, shape, list }
             }
             Err(_) => Sheet {
                 cells,
@@ -119,21 +110,18 @@ impl<K: Kind> Sheet<'_, K> {
         n != 0 && self.cells.len() >= needed_cells(n)
     }
 
-    // Why words cannot be posted, before any cell is touched.
-    fn post_refusal(&self, words: &[i32]) -> Option<SheetFault>
-        ensures fit { IfNone result (AllByRecursion (FitsSigned w32) words.now) }
-        ensures value { result ≡ post_refusal_of K.Kind.arith (model self.now) words.now }
+    // Whether words can be posted, before any cell is touched.
+    fn check_post(&self, words: &[i32]) -> Result<(), SheetFault>
+        ensures fit { OnOk result (AllByRecursion (FitsSigned w32) words.now) }
+        ensures value { result ≡ done_unless (post_refusal_of K.Kind.arith (model self.now) words.now) }
     {
         if !self.stands() {
-            return Some(SheetFault::NoSheet);
+            return Err(SheetFault::NoSheet);
         }
         if words.len() != self.shape.unknowns + 1 {
-            return Some(SheetFault::Count);
+            return Err(SheetFault::Count);
         }
-        match first_refused::<K>(words) {
-            Some(i) => Some(SheetFault::Number(NumberFault::NotAdmitted(i as u8))),
-            None => None,
-        }
+        check_words::<K>(words)
     }
 
     // Posts an equation: its coefficients, and then its right side.
@@ -147,13 +135,10 @@ impl<K: Kind> Sheet<'_, K> {
         ensures spare { SpareZero K.Kind.arith (model self.old) → SpareZero K.Kind.arith (model self.new) }
         ensures wiped { post_refusal_of K.Kind.arith (model self.old) words.now ≡ None → SpareZero K.Kind.arith (model self.new) }
     {
-        if let Some(fault) = self.post_refusal(words) {
-            return Err(fault);
-        }
+        self.check_post(words)?;
         let n = self.shape.unknowns;
         let moves = self.shape.moves;
-        let right = word_number::<K>(words, n);
-        let answer = post_numbers::<K>(&words[..n], right, self.cells, moves);
+        let answer = post_words::<K>(self.cells, self.shape, words);
         if let Ok(Verdict::Taken) = answer {
             self.shape = Shape {
                 unknowns: n,
@@ -175,31 +160,25 @@ impl<K: Kind> Sheet<'_, K> {
         if !self.stands() {
             return Err(SheetFault::NoSheet);
         }
-        let n = self.shape.unknowns;
-        lay_new::<K>(self.cells, n);
-        let moves = n;
-        self.shape = Shape { unknowns: n, moves };
+        self.shape = lay_sheet::<K>(self.cells, self.shape.unknowns);
         Ok(())
     }
 
-    // Why no plan can be picked, before any sum is made: `len` words are lent for it.
-    fn pick_refusal(&self, choice: &[i32], len: usize) -> Option<SheetFault>
-        ensures fit { IfNone result (AllByRecursion (FitsSigned w32) choice.now) }
-        ensures value { result ≡ pick_refusal_of K.Kind.arith (model self.now) choice.now len }
+    // Whether a plan can be picked, before any sum is made: `len` words are lent for it.
+    fn check_pick(&self, choice: &[i32], len: usize) -> Result<(), SheetFault>
+        ensures fit { OnOk result (AllByRecursion (FitsSigned w32) choice.now) }
+        ensures value { result ≡ done_unless (pick_refusal_of K.Kind.arith (model self.now) choice.now len) }
     {
         if !self.stands() {
-            return Some(SheetFault::NoSheet);
+            return Err(SheetFault::NoSheet);
         }
         if choice.len() != self.shape.moves {
-            return Some(SheetFault::Count);
+            return Err(SheetFault::Count);
         }
         if len != self.shape.unknowns {
-            return Some(SheetFault::Count);
+            return Err(SheetFault::Count);
         }
-        match first_refused::<K>(choice) {
-            Some(i) => Some(SheetFault::Number(NumberFault::NotAdmitted(i as u8))),
-            None => None,
-        }
+        check_words::<K>(choice)
     }
 
     // Picks the plan of a choice: a number for each move. The plan's words are written where the answer is no fault.
@@ -208,20 +187,15 @@ impl<K: Kind> Sheet<'_, K> {
         ensures left { plan.new ≡ pick_left K.Kind.arith (model self.now) choice.now plan.old }
         ensures law { PickLaw K.Kind.arith (model self.now) choice.now result plan.new }
     {
-        if let Some(fault) = self.pick_refusal(choice, plan.len()) {
-            return Err(fault);
-        }
-        let n = self.shape.unknowns;
-        let Some(words) = plan_words::<K>(choice, self.cells, n) else {
-            return Err(SheetFault::Overflow);
-        };
-        plan.copy_from_slice(&words[..n]);
+        self.check_pick(choice, plan.len())?;
+        let words = self.plan_words(choice).ok_or(SheetFault::Overflow)?;
+        plan.copy_from_slice(&words[..self.shape.unknowns]);
         Ok(())
     }
 
-    // Why the sheet cannot be shown on a page.
-    fn show_refusal(&self, page: &Page) -> Option<SheetFault>
-        ensures { result ≡ show_refusal_of (model self.now) (page_model page.now) }
+    // Whether the sheet can be shown on a page.
+    fn check_show(&self, page: &Page) -> Result<(), SheetFault>
+        ensures { result ≡ show_answer (model self.now) (page_model page.now) }
     {
         let stands = self.stands();
         let len = if stands {
@@ -230,13 +204,12 @@ impl<K: Kind> Sheet<'_, K> {
             0
         };
         if let Some(fault) = page.text_refusal(len) {
-            return Some(SheetFault::Page(fault));
+            return Err(SheetFault::Page(fault));
         }
-        if stands {
-            None
-        } else {
-            Some(SheetFault::NoSheet)
+        if !stands {
+            return Err(SheetFault::NoSheet);
         }
+        Ok(())
     }
 
     // Shows the fixed plan and the moves in order, a line each.
@@ -245,10 +218,8 @@ impl<K: Kind> Sheet<'_, K> {
         ensures answer { result ≡ show_answer (model self.now) (page_model page.old) }
         ensures left { page_model page.new ≡ show_left K.Kind.arith (model self.now) (page_model page.old) }
     {
-        if let Some(fault) = self.show_refusal(page) {
-            return Err(fault);
-        }
-        write_rows::<K>(page, self.cells, self.shape.unknowns, self.shape.moves);
+        self.check_show(page)?;
+        self.write_rows(page);
         Ok(())
     }
 }

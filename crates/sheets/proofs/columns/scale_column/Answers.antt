@@ -16,5 +16,5 @@ returns g c =
     let xs = numbers a (part at (n + 1) cells) in
     let l = length_numbers_part a cells at (n + 1) c.requires in
     let e = column_list a cells n at (omega (arith, c.requires)) in
-    combined_came a g.met.K.Kind.kept (blank a (column_at a cells n at)) (column_at a cells n at) c.args.u (map (λ _. a.zero) xs) xs cells c.combine.new.cells n at c.combine.result
-    c.requires (ap (map (λ _. a.zero)) e) e (length-map xs (λ _. a.zero) ∙ l) l c.combine.ensures
+    combined_came a g.met.K.Kind.kept (blank a (column_at a cells n at)) (column_at a cells n at) c.args.u (map (λ _. a.zero) xs) xs cells c.scale.new.cells n at c.scale.result
+    c.requires (ap (map (λ _. a.zero)) e) e (length-map xs (λ _. a.zero) ∙ l) l c.scale.ensures

@@ -8,10 +8,9 @@ use Rattle.sheets.proofs.sheet.Sheet.clear.Goals as goal
 pub returns : goal.returns
 returns g c =
     let a = g.K.Kind.arith in
-    let s = c.args.self.now.shape in
     let m = model c.args.self.now in
     let r : Result Unit SheetFault = Ok tt in
-    let after : Model g.row.K-Cell.Denot = record { cells = c.lay_new.new.cells; unknowns = s.unknowns; moves = s.unknowns; list = c.args.self.now.list } in
+    let after : Model g.row.K-Cell.Denot = record { cells = c.lay_sheet-self.new.cells; unknowns = c.lay_sheet-self.result.unknowns; moves = c.lay_sheet-self.result.moves; list = c.args.self.now.list } in
     let answer : r ≡ clear_answer m = search rules in
     let left : after ≡ clear_left a m = search rules in
     let k = clear_keeps a g.met.K.Kind.kept m r after answer left in

@@ -9,8 +9,7 @@ returns-in-Ok g c =
     let a = g.K.Kind.arith in
     let laws = g.met.K.Kind.kept in
     let cells = c.args.cells.now in
-    let n = c.in-Ok.n in
-    let m : Model g.row.K-Cell.Denot = record { cells = c.lay_new.new.cells; unknowns = n; moves = n; list = c.in-Ok.list } in
+    let m : Model g.row.K-Cell.Denot = record { cells = c.lay_sheet-shape.new.cells; unknowns = c.lay_sheet-shape.result.unknowns; moves = c.lay_sheet-shape.result.moves; list = c.in-Ok.list } in
     let e : m ≡ opened a c.args.unknowns c.args.list cells = search rules in
     record {
       held = refl;

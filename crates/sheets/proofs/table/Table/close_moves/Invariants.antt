@@ -1,0 +1,14 @@
+use Rattle.std.proofs.Common.{◌≡◌, take}
+use Rattle.std.specs.List.{flat_map}
+use Rattle.lines.specs.Page.{over}
+use Rattle.sheets.specs.Cells.{held}
+use Rattle.sheets.specs.Table.{left_of}
+use Rattle.sheets.proofs.table.Table.close_moves.Given as goal
+
+abbrev pub invariant-loop-j : goal.invariant-loop-j
+invariant-loop-j g l =
+    let s = l.initial.self in record {
+      same : l.self.cells.ghost_name ≡ s.cells.ghost_name;
+      shape : l.self.shape ≡ s.shape;
+      cells : l.self.cells.now ≡ over s.cells.now s.shape.unknowns (held g.K.Kind.arith (flat_map (λ move. move) (take l.j (left_of s l.pivot).moves)));
+    }

@@ -1,0 +1,7 @@
+use Rattle.std.proofs.Common.{◌≡◌}
+use Rattle.plans.specs.Posting.{largest_of}
+use Rattle.sheets.specs.Table.{skipped, size_of}
+use Rattle.sheets.proofs.table.Table.largest.Given as goal
+
+abbrev pub invariant-loop-j : goal.invariant-loop-j
+invariant-loop-j g l = l.best ≡ largest_of (size_of l.self) (skipped l.skip l.self.shape.moves) l.j
