@@ -60,12 +60,6 @@ numbers_fit known bytes e =
     let w = accepted known bytes e in
     words_fit (count_of bytes) (drop 4 bytes) (length-drop 4 bytes ∙ omega (arith, w.sized)) (All-drop (λ c. hex_value c < 16) 4 bytes w.hex)
 
-pub some_none : {X : Type 0} {x : X} → Some x ≡ None → ⊥
-some_none e = let z : ◌≡◌ {A = ℕ} 0 1 = cc in omega arith
-
-none_some : {X : Type 0} {x : X} → None ≡ Some x → ⊥
-none_some e = some_none (sym e)
-
 -- a direct posting's answer and a line's say the same
 force_same : (r : Result Verdict SheetFault) (e : Equation) (es : List Equation) → direct_after r e es ≡ in_force_after (posted_done r) e es
 force_same (Ok Taken) e es = refl
@@ -149,9 +143,9 @@ act_law : (v : View) (frame : Frame) (ws : List ℤ) → Small v → AllByRecurs
 act_law v Open ws s fit = record {
   kept = λ n. open_kept v (open_check v ws) ws n;
   in_force = λ es h. open_stands v (open_check v ws) ws (equation_of (unknowns_of v) ws) es h;
-  verdict = λ f es h j g. absurd (let z : ◌≡◌ {A = ℕ} 0 1 = cc in omega arith);
+  verdict = λ f es h j g. absurd cc;
 }
-act_law (without_sheet w d) (Ask q) ws s fit = record { kept = λ n. (refl, refl); in_force = λ es h. h; verdict = λ f es h j g. absurd (none_some g) }
+act_law (without_sheet w d) (Ask q) ws s fit = record { kept = λ n. (refl, refl); in_force = λ es h. h; verdict = λ f es h j g. absurd cc }
 act_law (on_whole m d) (Ask q) ws (s, few) fit = record {
   kept = λ n. (refl, ask_unknowns wholes whole_laws m few ws fit q);
   in_force = λ es h. ask_stands wholes whole_laws m few ws fit q es h;
@@ -168,4 +162,4 @@ line_law v line s = by (refusal known line) refl
   where
     by : (o : Option LineFault) → refusal known line ≡ o → FrameLaw v (frame_kind (frame_of line)) (numbers line) (answer_by o v line) (after_by o v line)
     by None e = act_law v (frame_kind (frame_of line)) (numbers line) s (numbers_fit known line e)
-    by (Some fault) e = record { kept = λ n. (refl, refl); in_force = λ es h. h; verdict = λ f es h j g. absurd (none_some g) }
+    by (Some fault) e = record { kept = λ n. (refl, refl); in_force = λ es h. h; verdict = λ f es h j g. absurd cc }

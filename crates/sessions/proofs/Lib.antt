@@ -1,5 +1,4 @@
 pub mod Lawful
-pub mod Picks
 pub mod Placing
 pub mod Replies
 pub mod Wiping

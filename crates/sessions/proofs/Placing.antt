@@ -14,8 +14,8 @@ use Rattle.sheets.specs.Words.{is_refused}
 use Rattle.sessions.specs.Frames.{Placeable}
 
 outcome_placeable : {N : Type 0} (o : Outcome N) (fault : SheetFault) → answer_of_lem o ≡ Err fault → Placeable fault
-outcome_placeable (taken t) fault e = let z : ◌≡◌ {A = ℕ} 0 1 = cc in absurd (omega arith)
-outcome_placeable implied fault e = let z : ◌≡◌ {A = ℕ} 0 1 = cc in absurd (omega arith)
+outcome_placeable (taken t) fault e = absurd cc
+outcome_placeable implied fault e = absurd cc
 outcome_placeable contradicted fault e = let f : Contradicted ≡ fault = cc in subst Placeable f tt
 outcome_placeable overflow fault e = let f : Overflow ≡ fault = cc in subst Placeable f tt
 
@@ -37,5 +37,5 @@ module _ {N C : Type 0} (a : Arithmetic N C) where
       by true false d o plan p e = let f : Count ≡ fault = cc in subst Placeable f tt
       by true true false o plan p e = let f : Count ≡ fault = cc in subst Placeable f tt
       by true true true (Some i) plan p e = let f : Number (NotAdmitted i) ≡ fault = cc in let b = find_below (is_refused a) 0 choice i p in subst Placeable f (omega arith)
-      by true true true None (Some xs) p e = let z : ◌≡◌ {A = ℕ} 0 1 = cc in absurd (omega arith)
+      by true true true None (Some xs) p e = absurd cc
       by true true true None None p e = let f : Overflow ≡ fault = cc in subst Placeable f tt

@@ -1,7 +1,7 @@
 -- What is written for a line is its reply.
-use Rattle.std.proofs.Common.{◌≡◌, ℕ, ◌+◌, ◌*◌, ◌<◌, ◌≤◌, Bool, true, false, cond, eqb, ltb, List, ◌++◌, map, length, take, drop, ℤ, Some, None, Ok, Err, Option, Result, sym, refl, ap, ◌∙◌, mul-le-mul, arith}
+use Rattle.std.proofs.Common.{◌≡◌, ℕ, ◌+◌, ◌*◌, ◌≤◌, Bool, true, false, cond, eqb, ltb, List, ◌++◌, map, length, take, drop, ℤ, Some, None, Ok, Err, Option, Result, sym, refl, ap, ◌∙◌, mul-le-mul, arith}
 use Rattle.std.proofs.lemmas.List.{append-nil, length-map, length-take-le, take_at}
-use Rattle.std.proofs.lemmas.Bool.{le-ltb, lt-ltb, cond-true}
+use Rattle.std.proofs.lemmas.Bool.{le-ltb}
 use Rattle.faults.specs.declared.LineFault.{LineFault}
 use Rattle.faults.specs.declared.LineFault.TheVariants.{FewWords, Count as LineCount}
 use Rattle.faults.specs.declared.PageFault.TheVariants.{LineBegun, NoRoom}
@@ -11,7 +11,7 @@ use Rattle.kinds.specs.Kind.{Arithmetic}
 use Rattle.kinds.specs.Weekday.{weekdays}
 use Rattle.kinds.specs.Whole.{wholes}
 use Rattle.lines.specs.Line.{frame_of, numbers, refusal}
-use Rattle.lines.specs.Page.{Model as PageModel, with_text}
+use Rattle.lines.specs.Page.{Model as PageModel, with_text, HasRoom}
 use Rattle.sheets.specs.Cells.{contents_in}
 use Rattle.sheets.specs.Picking.{pick_refusal_lem, plan_in, pick_unless, words_unless}
 use Rattle.sheets.specs.Sheet.{Model, stands}
@@ -20,9 +20,9 @@ use Rattle.sheets.specs.Words.{numbers_of}
 use Rattle.sheets.specs.declared.posting.Verdict.{Verdict}
 use Rattle.sheets.proofs.Plans.{plan_long}
 use Rattle.sheets.proofs.Shows.{text_behind, text_keeps}
-use Rattle.sessions.specs.Frames.{known, frame_kind, placed}
+use Rattle.sessions.specs.Frames.{known, frame_kind}
 use Rattle.sessions.specs.Lines.{posted_done, picked_done, done_unless, bare_refusal_lem, pick_done, plan_words_lem, picked_words, plan_left, ask_answer, ask_left, ask_plan}
-use Rattle.sessions.specs.Session.{View, without_sheet, on_whole, on_weekday, view_by, view, open_check, open_done, act, acted, planned, answer_by, after_by, plan_by, line_answer, line_after, line_plan, answer_text, plan_text, unknowns_of, picked_of, show_on_lem, page_after, replied, shown_of, rest_text, lent_refusal}
+use Rattle.sessions.specs.Session.{View, without_sheet, on_whole, on_weekday, view_on, view_by, view, open_check, open_done, act, acted, planned, answer_by, after_by, plan_by, line_answer, line_after, line_plan, answer_text, plan_text, unknowns_of, picked_of, show_on_lem, page_after, replied, shown_of, rest_text, lent_refusal}
 use Rattle.sessions.specs.declared.frame.Chosen.{Chosen}
 use Rattle.sessions.specs.declared.frame.Done.{Done}
 use Rattle.sessions.specs.declared.frame.Done.TheVariants.{Opened, Posted, Cleared, Picked, Shown}
@@ -31,8 +31,9 @@ use Rattle.sessions.specs.declared.frame.Frame.TheVariants.{Open, Ask}
 use Rattle.sessions.specs.declared.frame.Request.{Request}
 use Rattle.sessions.specs.declared.frame.Request.TheVariants.{Equation, Clear, Pick, Show}
 use Rattle.sessions.specs.declared.session.Session.{Session}
-use Rattle.sessions.specs.declared.session.State.{State}
-use Rattle.sessions.specs.declared.session.State.TheVariants.{NoSheet as OnNone, Whole as OnWhole, Weekday as OnWeekday}
+use Rattle.sheets.specs.declared.shape.Outline.{Outline}
+use Rattle.sessions.specs.declared.frame.Chosen.TheVariants.{Whole, Weekday}
+use Rattle.sessions.specs.declared.session.Current.{Current}
 
 -- a sheet is no larger than any can be
 abbrev pub SmallSheet : {C : Type 0} → Model C → Type 0
@@ -44,57 +45,32 @@ Small (on_whole m d) = SmallSheet m
 Small (on_weekday w m) = SmallSheet m
 
 pub small : (s : Session) → Small (view s)
-small s = by s.state
+small s = by s.sheet
   where
-    by : (x : State) → Small (view_by x s.whole s.weekday)
-    by OnNone = tt
-    by (OnWhole o) = (o.shape.small, o.shape.few)
-    by (OnWeekday o) = (o.shape.small, o.shape.few)
+    on : (kind : Chosen) (o : Outline) → Small (view_on kind o s.whole s.weekday)
+    on Whole o = (o.shape.small, o.shape.few)
+    on Weekday o = (o.shape.small, o.shape.few)
+
+    by : (x : Option Current) → Small (view_by x s.whole s.weekday)
+    by None = tt
+    by (Some sheet) = on sheet.kind sheet.outline
 
 -- what a result of a kind is not
-not_ok : {X : Type 0} (fault : SheetFault) (x : X) → Err fault ≡ Ok x → ⊥
-not_ok fault x e = let z : ◌≡◌ {A = ℕ} 0 1 = cc in omega arith
-
 open_not : (r : Result Chosen SheetFault) (done : Done) → (Opened ≡ done → ⊥) → open_done r ≡ Ok done → ⊥
 open_not (Ok kind) done n e = let f : Opened ≡ done = cc in n f
-open_not (Err fault) done n e = not_ok fault done e
+open_not (Err fault) done n e = cc
 
 post_not : (r : Result Verdict SheetFault) (done : Done) → ((v : Verdict) → Posted v ≡ done → ⊥) → posted_done r ≡ Ok done → ⊥
 post_not (Ok verdict) done n e = let f : Posted verdict ≡ done = cc in n verdict f
-post_not (Err fault) done n e = not_ok (placed fault) done e
+post_not (Err fault) done n e = cc
 
 bare_not : (o : Option SheetFault) (x done : Done) → (x ≡ done → ⊥) → done_unless o x ≡ Ok done → ⊥
 bare_not None x done n e = let f : x ≡ done = cc in n f
-bare_not (Some fault) x done n e = not_ok fault done e
+bare_not (Some fault) x done n e = cc
 
 picked_not : (r : Result Unit SheetFault) (done : Done) → (Picked ≡ done → ⊥) → picked_done r ≡ Ok done → ⊥
 picked_not (Ok _) done n e = let f : Picked ≡ done = cc in n f
-picked_not (Err fault) done n e = not_ok (placed fault) done e
-
--- the cases of Done differ
-opened_shown : Opened ≡ Shown → ⊥
-opened_shown e = let z : ◌≡◌ {A = ℕ} 0 1 = cc in omega arith
-
-opened_picked : Opened ≡ Picked → ⊥
-opened_picked e = let z : ◌≡◌ {A = ℕ} 0 1 = cc in omega arith
-
-posted_shown : (v : Verdict) → Posted v ≡ Shown → ⊥
-posted_shown v e = let z : ◌≡◌ {A = ℕ} 0 1 = cc in omega arith
-
-posted_picked : (v : Verdict) → Posted v ≡ Picked → ⊥
-posted_picked v e = let z : ◌≡◌ {A = ℕ} 0 1 = cc in omega arith
-
-cleared_shown : Cleared ≡ Shown → ⊥
-cleared_shown e = let z : ◌≡◌ {A = ℕ} 0 1 = cc in omega arith
-
-cleared_picked : Cleared ≡ Picked → ⊥
-cleared_picked e = let z : ◌≡◌ {A = ℕ} 0 1 = cc in omega arith
-
-picked_shown : Picked ≡ Shown → ⊥
-picked_shown e = let z : ◌≡◌ {A = ℕ} 0 1 = cc in omega arith
-
-shown_picked : Shown ≡ Picked → ⊥
-shown_picked e = let z : ◌≡◌ {A = ℕ} 0 1 = cc in omega arith
+picked_not (Err fault) done n e = cc
 
 -- the sheet that is to be shown has unknowns and its cells
 abbrev pub Stands : View → Type 0
@@ -107,13 +83,13 @@ check_stands m ws e = by (stands m) (eqb (length ws) 0) refl e
   where
     by : (t b : Bool) → stands m ≡ t → done_unless (cond t (cond b None (Some (Line LineCount))) (Some NoSheet)) Shown ≡ Ok Shown → stands m ≡ true
     by true b p e = p
-    by false b p e = absurd (not_ok NoSheet Shown e)
+    by false b p e = absurd cc
 
 module _ {N C : Type 0} (a : Arithmetic N C) (m : Model C) where
   ask_stands : (q : Request) (ws : List ℤ) → ask_answer a m q ws ≡ Ok Shown → stands (ask_left a m q ws) ≡ true
-  ask_stands Equation ws e = absurd (post_not _ Shown posted_shown e)
-  ask_stands Clear ws e = absurd (bare_not (bare_refusal_lem m ws) Cleared Shown cleared_shown e)
-  ask_stands Pick ws e = absurd (picked_not _ Shown picked_shown e)
+  ask_stands Equation ws e = absurd (post_not _ Shown (λ v h. cc) e)
+  ask_stands Clear ws e = absurd (bare_not (bare_refusal_lem m ws) Cleared Shown (λ h. cc) e)
+  ask_stands Pick ws e = absurd (picked_not _ Shown (λ h. cc) e)
   ask_stands Show ws e = check_stands m ws e
 
   -- a picked plan is in the first of the words lent for it
@@ -124,27 +100,27 @@ module _ {N C : Type 0} (a : Arithmetic N C) (m : Model C) where
     where
       by : (f : Option SheetFault) (plan : Option (List N)) → plan_in a m ws ≡ plan → pick_refusal_lem a m ws (length (take m.unknowns old)) ≡ f → picked_done (pick_unless a f plan) ≡ Ok Picked
           → take m.unknowns (words_unless a (pick_refusal_lem a m ws (length (take m.unknowns old))) plan (take m.unknowns old) ++ drop m.unknowns old) ≡ plan_words_lem a plan
-      by (Some fault) plan p q e = absurd (not_ok (placed fault) Picked e)
+      by (Some fault) plan p q e = absurd cc
       by None (Some xs) p q e =
           ap (λ (f : Option SheetFault). take m.unknowns (words_unless a f (Some xs) (take m.unknowns old) ++ drop m.unknowns old)) q
           ∙ take_at (map a.write xs) (drop m.unknowns old) m.unknowns (length-map xs a.write ∙ plan_long a m.unknowns (contents_in a m.unknowns m.moves m.cells) (numbers_of a ws) xs p)
-      by None None p q e = absurd (not_ok _ Picked e)
+      by None None p q e = absurd cc
 
   ask_picked : (q : Request) (ws old : List ℤ) → m.unknowns ≤ length old → ask_answer a m q ws ≡ Ok Picked → take (ask_left a m q ws).unknowns (ask_plan a m q ws old) ≡ picked_words a (ask_left a m q ws) ws
-  ask_picked Equation ws old h e = absurd (post_not _ Picked posted_picked e)
-  ask_picked Clear ws old h e = absurd (bare_not (bare_refusal_lem m ws) Cleared Picked cleared_picked e)
+  ask_picked Equation ws old h e = absurd (post_not _ Picked (λ v h. cc) e)
+  ask_picked Clear ws old h e = absurd (bare_not (bare_refusal_lem m ws) Cleared Picked (λ h. cc) e)
   ask_picked Pick ws old h e = picked_is ws old h e
-  ask_picked Show ws old h e = absurd (bare_not (bare_refusal_lem m ws) Shown Picked shown_picked e)
+  ask_picked Show ws old h e = absurd (bare_not (bare_refusal_lem m ws) Shown Picked (λ h. cc) e)
 
 act_stands : (v : View) (f : Frame) (ws : List ℤ) → act v f ws ≡ Ok Shown → Stands (acted v f ws)
-act_stands v Open ws e = absurd (open_not (open_check v ws) Shown opened_shown e)
-act_stands (without_sheet w d) (Ask q) ws e = absurd (not_ok NoSheet Shown e)
+act_stands v Open ws e = absurd (open_not (open_check v ws) Shown (λ h. cc) e)
+act_stands (without_sheet w d) (Ask q) ws e = absurd cc
 act_stands (on_whole m d) (Ask q) ws e = ask_stands wholes m q ws e
 act_stands (on_weekday w m) (Ask q) ws e = ask_stands weekdays m q ws e
 
 act_picked : (v : View) (f : Frame) (ws old : List ℤ) → Small v → 24 ≤ length old → act v f ws ≡ Ok Picked → take (unknowns_of (acted v f ws)) (planned v f ws old) ≡ picked_of (acted v f ws) ws
-act_picked v Open ws old s h e = absurd (open_not (open_check v ws) Picked opened_picked e)
-act_picked (without_sheet w d) (Ask q) ws old s h e = absurd (not_ok NoSheet Picked e)
+act_picked v Open ws old s h e = absurd (open_not (open_check v ws) Picked (λ h. cc) e)
+act_picked (without_sheet w d) (Ask q) ws old s h e = absurd cc
 act_picked (on_whole m d) (Ask q) ws old (s, f) h e = ask_picked wholes m q ws old (omega arith) e
 act_picked (on_weekday w m) (Ask q) ws old (s, f) h e = ask_picked weekdays m q ws old (omega arith) e
 
@@ -153,14 +129,14 @@ shown_stands v line e = by (refusal known line) e
   where
     by : (o : Option LineFault) → answer_by o v line ≡ Ok Shown → Stands (after_by o v line)
     by None e = act_stands v (frame_kind (frame_of line)) (numbers line) e
-    by (Some fault) e = absurd (not_ok (Line fault) Shown e)
+    by (Some fault) e = absurd cc
 
 pub plan_picked : (v : View) (line : List ℕ) (old : List ℤ) → Small v → 24 ≤ length old → line_answer v line ≡ Ok Picked → take (unknowns_of (line_after v line)) (line_plan v line old) ≡ picked_of (line_after v line) (numbers line)
 plan_picked v line old s h e = by (refusal known line) e
   where
     by : (o : Option LineFault) → answer_by o v line ≡ Ok Picked → take (unknowns_of (after_by o v line)) (plan_by o v line old) ≡ picked_of (after_by o v line) (numbers line)
     by None e = act_picked v (frame_kind (frame_of line)) (numbers line) old s h e
-    by (Some fault) e = absurd (not_ok (Line fault) Picked e)
+    by (Some fault) e = absurd cc
 
 -- a sheet that stands is shown on a page that has 4925 bytes left
 show_fits : {N C : Type 0} (a : Arithmetic N C) (m : Model C) (p : PageModel) → SmallSheet m → stands m ≡ true → p.begun ≡ false → p.end + 4925 ≤ length p.bytes
@@ -177,13 +153,6 @@ shown_fits : (v : View) (p : PageModel) → Small v → Stands v → p.begun ≡
 shown_fits (without_sheet w d) p s t i h = absurd t
 shown_fits (on_whole m d) p s t i h = show_fits wholes m p s t i h
 shown_fits (on_weekday w m) p s t i h = show_fits weekdays m p s t i h
-
--- behind an answer line of 29 bytes there is room for a plan
-pub answer_room : (m p : PageModel) (number : ℤ) (answer : Result Done SheetFault) → p ≡ with_text m (answer_text number answer) → m.end + 4954 ≤ length m.bytes → p.end + 197 ≤ length p.bytes
-answer_room m p number answer e h =
-    let n = ap (λ (x : PageModel). x.end) e in
-    let k = ap (λ (x : PageModel). length x.bytes) e ∙ text_keeps m (answer_text number answer) (omega arith) in
-    omega arith
 
 -- a text, and the lines behind an answer
 rest_written : (v : View) (ws plan : List ℤ) (answer : Result Done SheetFault) (m : PageModel) (text : List ℕ) → Small v → (answer ≡ Ok Shown → Stands v) → (answer ≡ Ok Picked → take (unknowns_of v) plan ≡ picked_of v ws)
@@ -203,12 +172,6 @@ pub reply_written : (v : View) (ws plan : List ℤ) (answer : Result Done SheetF
 unfolding replied
 reply_written v ws plan answer m number s h p r = rest_written v ws plan answer m (answer_text number answer) s h p refl r
 
--- too little is lent, or enough
-pub few_bytes : (out words : ℕ) → out < 4954 → lent_refusal out words ≡ Some (Page NoRoom)
-few_bytes out words h = cond-true (ltb out 4954) (Some (Page NoRoom)) (cond (ltb words 25) (Some (Line FewWords)) None) (lt-ltb out 4954 h)
-
-pub few_words : (out words : ℕ) → 4954 ≤ out → words < 25 → lent_refusal out words ≡ Some (Line FewWords)
-few_words out words h k = (λ j. cond (le-ltb out 4954 h j) (Some (Page NoRoom)) (cond (lt-ltb words 25 k j) (Some (Line FewWords)) None))
-
+-- enough is lent
 pub enough_lent : (out words : ℕ) → 4954 ≤ out → 25 ≤ words → lent_refusal out words ≡ None
 enough_lent out words h k = (λ j. cond (le-ltb out 4954 h j) (Some (Page NoRoom)) (cond (le-ltb words 25 k j) (Some (Line FewWords)) None))

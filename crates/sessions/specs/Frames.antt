@@ -1,9 +1,10 @@
 -- What a line asks of a session, and the numbers that it is answered by. Assumes nothing.
-use Rattle.std.specs.Prelude.{ℕ, ◌+◌, ◌*◌, ◌<◌, cond, List, [], ◌∷◌, ℤ, pos, negsuc, Some, None, Ok, Err, Option, Result, ◌==◌}
+use Rattle.std.specs.Prelude.{ℕ, ◌+◌, ◌*◌, ◌<◌, cond, List, [], ◌∷◌, ℤ, pos, negsuc, Some, None, Ok, Err, Option, Result, ok_or, ◌==◌}
 use Rattle.faults.specs.Faults.{sheet_fault, sheet_place, nowhere}
 use Rattle.faults.specs.declared.NumberFault.{NumberFault}
 use Rattle.faults.specs.declared.NumberFault.TheVariants.{Lowest, Modulus, Unknowns, ListNumber, NotAdmitted}
-use Rattle.faults.specs.declared.LineFault.TheVariants.{Count as LineCount, Number as LineNumber}
+use Rattle.faults.specs.declared.LineFault.{LineFault}
+use Rattle.faults.specs.declared.LineFault.TheVariants.{Frame as LineFrame, Count as LineCount, Number as LineNumber}
 use Rattle.faults.specs.declared.SheetFault.{SheetFault}
 use Rattle.faults.specs.declared.SheetFault.TheVariants.{Page, Line, Number, NoSheet, Count, FewCells, Overflow, Contradicted}
 use Rattle.kinds.specs.Weekday.{weekdays}
@@ -25,10 +26,20 @@ known = 1 ∷ (2 ∷ (3 ∷ (4 ∷ (5 ∷ []))))
 abbrev pub frame_kind : ℕ → Frame
 frame_kind frame = cond (frame == 1) Open (cond (frame == 2) (Ask Equation) (cond (frame == 3) (Ask Clear) (cond (frame == 4) (Ask Pick) (Ask Show))))
 
+-- the same of any frame: one that is not known is refused
+abbrev pub frame_named : ℕ → Result Frame LineFault
+frame_named frame =
+    cond (frame == 1) (Ok Open)
+    (cond (frame == 2) (Ok (Ask Equation)) (cond (frame == 3) (Ok (Ask Clear)) (cond (frame == 4) (Ok (Ask Pick)) (cond (frame == 5) (Ok (Ask Show)) (Err LineFrame)))))
+
 -- the kind with this modulus
 abbrev pub kind_of : ℤ → Option Chosen
 kind_of (pos n) = cond (n == wholes.modulus) (Some Whole) (cond (n == weekdays.modulus) (Some Weekday) None)
 kind_of (negsuc n) = None
+
+-- the same, or that the number is no modulus
+abbrev pub kind_named : ℤ → Result Chosen NumberFault
+kind_named modulus = ok_or (kind_of modulus) Modulus
 
 -- a number's fault, with the place of its first digit where the number is one of a line
 abbrev pub placed_number : NumberFault → SheetFault

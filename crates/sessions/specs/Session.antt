@@ -24,8 +24,8 @@ use Rattle.sessions.specs.declared.frame.Done.TheVariants.{Opened, Posted, Clear
 use Rattle.sessions.specs.declared.frame.Frame.{Frame}
 use Rattle.sessions.specs.declared.frame.Frame.TheVariants.{Open, Ask}
 use Rattle.sessions.specs.declared.session.Session.{Session}
-use Rattle.sessions.specs.declared.session.State.{State}
-use Rattle.sessions.specs.declared.session.State.TheVariants.{NoSheet as OnNone, Whole as OnWhole, Weekday as OnWeekday}
+use Rattle.sheets.specs.declared.shape.Outline.{Outline}
+use Rattle.sessions.specs.declared.session.Current.{Current}
 
 -- a session: without a sheet, on a whole sheet or on a weekday sheet; with the cells of the kinds that it is not on
 pub data View : Type 0 where
@@ -33,13 +33,16 @@ pub data View : Type 0 where
   on_whole : Model WholeCell → List WeekdayCell → View
   on_weekday : List WholeCell → Model WeekdayCell → View
 
-abbrev pub view_by : State → List WholeCell → List WeekdayCell → View
-view_by OnNone w d = without_sheet w d
-view_by (OnWhole outline) w d = on_whole (model_of w outline) d
-view_by (OnWeekday outline) w d = on_weekday w (model_of d outline)
+abbrev pub view_on : Chosen → Outline → List WholeCell → List WeekdayCell → View
+view_on Whole outline w d = on_whole (model_of w outline) d
+view_on Weekday outline w d = on_weekday w (model_of d outline)
+
+abbrev pub view_by : Option Current → List WholeCell → List WeekdayCell → View
+view_by None w d = without_sheet w d
+view_by (Some sheet) w d = view_on sheet.kind sheet.outline w d
 
 abbrev pub view : Session → View
-view s = view_by s.state s.whole s.weekday
+view s = view_by s.sheet s.whole s.weekday
 
 -- without a sheet, all cells zero
 abbrev pub new_session : View

@@ -1,6 +1,6 @@
 // What a line asks of a session, and what came of it.
 ghost use Rattle.std.specs.Prelude.{◌≡◌};
-ghost use Rattle.sessions.specs.Frames.{frame_kind, kind_of, answer_number, answer_place, placed, Placeable};
+ghost use Rattle.sessions.specs.Frames.{frame_named, kind_named, answer_number, answer_place, placed, Placeable};
 
 use faults::{LineFault, NumberFault, SheetFault};
 use kinds::kind::Kind;
@@ -11,7 +11,7 @@ use sheets::posting::Verdict;
 // The frames that a session knows.
 pub const KNOWN: [u8; 5] = [0x01, 0x02, 0x03, 0x04, 0x05];
 
-// What a line asks of the sheet that is open.
+// What a line asks of the sheet that is open. Kept beside the calls of a run, which hold their words: both landed.
 #[derive(Clone, Copy)]
 pub enum Request {
     Equation,
@@ -20,7 +20,7 @@ pub enum Request {
     Show,
 }
 
-// What a line asks for.
+// What a line asks for. Kept as an enum: an opening is a frame too, and not the lack of a request.
 #[derive(Clone, Copy)]
 pub enum Frame {
     Open,
@@ -44,34 +44,39 @@ pub enum Done {
     Shown,
 }
 
-// What a known frame asks for.
-pub(crate) fn frame_of(frame: u8) -> Frame
-    ensures { result ≡ frame_kind frame }
-{
-    match frame {
-        0x01 => Frame::Open,
-        0x02 => Frame::Ask(Request::Equation),
-        0x03 => Frame::Ask(Request::Clear),
-        0x04 => Frame::Ask(Request::Pick),
-        _ => Frame::Ask(Request::Show),
+impl TryFrom<u8> for Frame {
+    type Error = LineFault;
+
+    ghost try_from_gives = { λ frame result. result ≡ frame_named frame };
+
+    fn try_from(frame: u8) -> Result<Frame, LineFault> {
+        match frame {
+            0x01 => Ok(Frame::Open),
+            0x02 => Ok(Frame::Ask(Request::Equation)),
+            0x03 => Ok(Frame::Ask(Request::Clear)),
+            0x04 => Ok(Frame::Ask(Request::Pick)),
+            0x05 => Ok(Frame::Ask(Request::Show)),
+            _ => Err(LineFault::Frame),
+        }
     }
 }
 
-// The kind with this modulus.
-pub(crate) fn kind_with(modulus: i32) -> Option<Chosen>
-    ensures { result ≡ kind_of modulus }
-{
-    if modulus < 0 {
-        return None;
-    }
-    match modulus as u32 {
-        Whole::MODULUS => Some(Chosen::Whole),
-        Weekday::MODULUS => Some(Chosen::Weekday),
-        _ => None,
+// The kind with a modulus.
+impl TryFrom<i32> for Chosen {
+    type Error = NumberFault;
+
+    ghost try_from_gives = { λ modulus result. result ≡ kind_named modulus };
+
+    fn try_from(modulus: i32) -> Result<Chosen, NumberFault> {
+        match u32::try_from(modulus) {
+            Ok(Whole::MODULUS) => Ok(Chosen::Whole),
+            Ok(Weekday::MODULUS) => Ok(Chosen::Weekday),
+            _ => Err(NumberFault::Modulus),
+        }
     }
 }
 
-// A direct call's fault, with its place in the line whose numbers were handed to the call.
+// A direct call's fault, with its place in the line whose numbers were handed to the call. No `From`: one type.
 pub(crate) fn placed_in_line(fault: SheetFault) -> SheetFault
     requires { Placeable fault }
     ensures { result ≡ placed fault }
@@ -92,6 +97,7 @@ pub(crate) fn placed_in_line(fault: SheetFault) -> SheetFault
 }
 
 // The number of an answer.
+// Kept beside the one of a run's answers: a session's say what was done, by which the lines behind them are chosen.
 pub(crate) fn number_of(answer: Result<Done, SheetFault>) -> i32
     ensures { result ≡ answer_number answer }
 {
@@ -102,7 +108,7 @@ pub(crate) fn number_of(answer: Result<Done, SheetFault>) -> i32
     }
 }
 
-// The place of an answer: the byte of the line at fault, or -1.
+// The place of an answer: the byte of the line at fault, or -1. Kept as one number: the format writes a place so.
 pub(crate) fn place_of(answer: Result<Done, SheetFault>) -> i32
     ensures { result ≡ answer_place answer }
 {

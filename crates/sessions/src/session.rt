@@ -1,15 +1,14 @@
 // A session: its sheets' cells, which sheet it is on, and the call that answers one line.
-ghost use Rattle.std.specs.Prelude.{◌≡◌, ◌+◌, ◌≤◌, false, length, IfOk, None};
-ghost use Rattle.lines.specs.Page.{model as page_model, with_text, over};
+ghost use Rattle.std.specs.Prelude.{◌≡◌, ◌+◌, ◌≤◌, length, IfOk, None};
+ghost use Rattle.lines.specs.Page.{model as page_model, with_text, over, HasRoom};
 ghost use Rattle.sessions.specs.Law.{LineLaw};
 ghost use Rattle.sessions.specs.Session.{view, new_session, open_check, open_done, open_left, act as act_of, acted, planned, line_answer, line_after, line_plan, unknowns_of, show_on_lem as show_on_of, page_after, replied, answer_text, plan_text, reply, lent_refusal, call_answer, kept_if};
 ghost use Rattle.sessions.specs.Wiped.{wiped};
 
-use crate::frame::{Chosen, Done, Frame, kind_with, number_of, place_of};
-use crate::sheet_calls::{ask, open_on, show_on};
+use crate::frame::{Chosen, Done, Frame, number_of, place_of};
+use crate::sheet_calls::{MOST_UNKNOWNS, ask_on, open_on, show_on};
 use crate::unpacked::Unpacked;
-use faults::{LineFault, NumberFault, PageFault, SheetFault};
-use kinds::kind::Kind;
+use faults::{LineFault, PageFault, SheetFault};
 use kinds::weekday::{Weekday, WeekdayCell};
 use kinds::whole::{Whole, WholeCell};
 use lines::page::Page;
@@ -17,31 +16,31 @@ use lines::reading::MOST_NUMBERS;
 use lines::writing::write_line;
 use sheets::shape::Outline;
 
-// As many cells as the largest sheet needs.
+// As many cells as the largest sheet needs: the memory of a session is fixed, with no heap.
 pub const CELLS: usize = 1225;
 
 // As many bytes as an answer line and the lines of the largest sheet have.
 pub const OUTPUT: usize = 4954;
-
-// As many unknowns as a sheet may have.
-const MOST_UNKNOWNS: usize = 24;
 
 // The frames of an answer and of a picked plan.
 const ANSWER: u8 = 0x81;
 
 const PICKED_PLAN: u8 = 0x82;
 
-// Which sheet a session is on.
+// The sheet that a session is on: its kind, and what it is besides the cells.
 #[derive(Clone, Copy)]
-pub enum State {
-    NoSheet,
-    Whole(Outline),
-    Weekday(Outline),
+struct Current {
+    kind: Chosen,
+    outline: Outline,
 }
 
+// Kept with an arm for each kind where cells are passed on: the cells of each kind have a type of their own.
+// Kept without an `impl Model`: the landed law of a line takes the `view` of a session, so clauses would say it all
+// the same.
+// The arrays are the session's memory, with no heap.
 #[derive(Drop)]
 pub struct Session {
-    state: State,
+    sheet: Option<Current>,
     whole: [WholeCell; CELLS],
     weekday: [WeekdayCell; CELLS],
 }
@@ -52,7 +51,7 @@ impl Session {
         ensures { view result ≡ new_session }
     {
         Session {
-            state: State::NoSheet,
+            sheet: None,
             whole: [WholeCell { value: 0 }; CELLS],
             weekday: [WeekdayCell { value: 0 }; CELLS],
         }
@@ -63,46 +62,42 @@ impl Session {
         ensures answer { result ≡ open_done (open_check (view self.old) words.now) }
         ensures left { view self.new ≡ open_left (view self.old) (open_check (view self.old) words.now) words.now }
     {
-        if words.len() != 3 {
+        let [modulus, unknowns, list] = words else {
             return Err(SheetFault::Line(LineFault::Count));
-        }
-        match kind_with(words[0]) {
-            Some(Chosen::Whole) => {
-                let outline = open_on::<Whole>(&mut self.whole, words[1], words[2])?;
-                self.state = State::Whole(outline);
-            }
-            Some(Chosen::Weekday) => {
-                let outline = open_on::<Weekday>(&mut self.weekday, words[1], words[2])?;
-                self.state = State::Weekday(outline);
-            }
-            None => return Err(SheetFault::Line(LineFault::Number(NumberFault::Modulus, 4))),
-        }
+        };
+        let kind = Chosen::try_from(*modulus).map_err(|fault| LineFault::Number(fault, 4))?;
+        let outline = match kind {
+            Chosen::Whole => open_on::<Whole>(&mut self.whole, *unknowns, *list)?,
+            Chosen::Weekday => open_on::<Weekday>(&mut self.weekday, *unknowns, *list)?,
+        };
+        self.sheet = Some(Current { kind, outline });
         Ok(Done::Opened)
     }
 
     // Does what a frame asks for, with its numbers. A picked plan is put into the first words of `plan`.
-    fn act(&mut self, frame: Frame, words: &[i32], plan: &mut [i32]) -> Result<Done, SheetFault>
-        requires few { length words.now ≤ 25 }
-        requires room { 24 ≤ length plan.old }
+    // What is asked is known only where the line is read: a match, and a `requires` on its numbers as in the calls.
+    fn act(
+        &mut self,
+        frame: Frame,
+        words: &[i32],
+        plan: &mut [i32; MOST_UNKNOWNS],
+    ) -> Result<Done, SheetFault>
+        requires { length words.now ≤ 25 }
         ensures answer { result ≡ act_of (view self.old) frame words.now }
         ensures left { view self.new ≡ acted (view self.old) frame words.now }
         ensures plan { plan.new ≡ planned (view self.old) frame words.now plan.old }
     {
-        match (self.state, frame) {
+        match (&mut self.sheet, frame) {
             (_, Frame::Open) => self.open(words),
-            (State::NoSheet, Frame::Ask(_)) => Err(SheetFault::NoSheet),
-            (State::Whole(outline), Frame::Ask(request)) => {
-                let mut outline = outline;
-                let answer = ask::<Whole>(&mut self.whole, &mut outline, request, words, plan);
-                self.state = State::Whole(outline);
-                answer
-            }
-            (State::Weekday(outline), Frame::Ask(request)) => {
-                let mut outline = outline;
-                let answer = ask::<Weekday>(&mut self.weekday, &mut outline, request, words, plan);
-                self.state = State::Weekday(outline);
-                answer
-            }
+            (None, Frame::Ask(_)) => Err(SheetFault::NoSheet),
+            (Some(sheet), Frame::Ask(request)) => match sheet.kind {
+                Chosen::Whole => {
+                    ask_on::<Whole>(&mut self.whole, &mut sheet.outline, request, words, plan)
+                }
+                Chosen::Weekday => {
+                    ask_on::<Weekday>(&mut self.weekday, &mut sheet.outline, request, words, plan)
+                }
+            },
         }
     }
 
@@ -111,18 +106,17 @@ impl Session {
         &mut self,
         line: &[u8],
         words: &mut [i32],
-        plan: &mut [i32],
+        plan: &mut [i32; MOST_UNKNOWNS],
     ) -> Result<Done, SheetFault>
-        requires words { 25 ≤ length words.old }
-        requires room { 24 ≤ length plan.old }
+        requires { 25 ≤ length words.old }
         ensures answer { result ≡ line_answer (view self.old) line.now }
         ensures left { view self.new ≡ line_after (view self.old) line.now }
         ensures words { words.new ≡ wiped words.old }
         ensures plan { plan.new ≡ line_plan (view self.old) line.now plan.old }
     {
         let mut unpacked = Unpacked::new(words);
-        let asked = unpacked.read(line)?;
-        self.act(asked.frame, unpacked.first(asked.count), plan)
+        let frame = unpacked.read(line)?;
+        self.act(frame, unpacked.numbers(), plan)
     }
 
     // How many unknowns the sheet has that the session is on.
@@ -130,11 +124,7 @@ impl Session {
         ensures value { result ≡ unknowns_of (view self.now) }
         ensures few { result ≤ 24 }
     {
-        match self.state {
-            State::NoSheet => 0,
-            State::Whole(outline) => outline.unknowns(),
-            State::Weekday(outline) => outline.unknowns(),
-        }
+        self.sheet.map_or(0, |sheet| sheet.outline.unknowns())
     }
 
     // Shows the sheet that the session is on.
@@ -143,19 +133,24 @@ impl Session {
         ensures kept { view self.new ≡ view self.old }
         ensures page { page_model page.new ≡ show_on_of (view self.old) (page_model page.old) }
     {
-        match self.state {
-            State::NoSheet => {}
-            State::Whole(outline) => show_on::<Whole>(&mut self.whole, outline, page),
-            State::Weekday(outline) => show_on::<Weekday>(&mut self.weekday, outline, page),
+        let Some(Current { kind, outline }) = self.sheet else {
+            return;
+        };
+        match kind {
+            Chosen::Whole => show_on::<Whole>(&mut self.whole, outline, page),
+            Chosen::Weekday => show_on::<Weekday>(&mut self.weekday, outline, page),
         }
     }
 
     // Writes the lines that stand behind an answer: a picked plan, which is in the first words of `plan`, or all that
-    // the sheet shows.
-    fn write_rest(&mut self, answer: Result<Done, SheetFault>, plan: &[i32], page: &mut Page)
-        requires plan { 24 ≤ length plan.now }
-        requires idle { page.old.begun ≡ false }
-        requires room { page.old.end + 197 ≤ length page.old.bytes.now }
+    // the sheet shows. Answer and plan are kept apart: `Done` landed as a public enum without words.
+    fn write_rest(
+        &mut self,
+        answer: Result<Done, SheetFault>,
+        plan: &[i32; MOST_UNKNOWNS],
+        page: &mut Page,
+    )
+        requires room { HasRoom (page_model page.old) 197 }
         ensures held { page.new.bytes.ghost_name ≡ page.old.bytes.ghost_name }
         ensures kept { view self.new ≡ view self.old }
         ensures page { page_model page.new ≡ page_after (view self.old) plan.now answer (page_model page.old) }
@@ -163,7 +158,7 @@ impl Session {
         match answer {
             Ok(Done::Picked) => {
                 let n = self.unknowns();
-                write_plan(page, &plan[0..n]);
+                write_plan(page, &plan[..n]);
             }
             Ok(Done::Shown) => self.show(page),
             _ => {}
@@ -175,12 +170,10 @@ impl Session {
         &mut self,
         number: i32,
         answer: Result<Done, SheetFault>,
-        plan: &[i32],
+        plan: &[i32; MOST_UNKNOWNS],
         page: &mut Page,
     )
-        requires plan { 24 ≤ length plan.now }
-        requires idle { page.old.begun ≡ false }
-        requires room { page.old.end + 4954 ≤ length page.old.bytes.now }
+        requires room { HasRoom (page_model page.old) 4954 }
         ensures held { page.new.bytes.ghost_name ≡ page.old.bytes.ghost_name }
         ensures kept { view self.new ≡ view self.old }
         ensures page { page_model page.new ≡ replied (view self.old) plan.now number answer (page_model page.old) }
@@ -191,7 +184,7 @@ impl Session {
 
     // Answers one line: the answer under frame 81, and behind it a picked plan (82) or all that the sheet shows (83 and
     // 84), at the start of the output; how many bytes they have is given back. Where the output is under 4954 bytes, or
-    // the words under 25, nothing is written and nothing changes.
+    // the words under 25, nothing is written and nothing changes. Kept with its parameters: it landed so.
     pub fn call(
         &mut self,
         number: i32,
@@ -212,6 +205,7 @@ impl Session {
         if words.len() < MOST_NUMBERS {
             return Err(SheetFault::Line(LineFault::FewWords));
         }
+        // Kept as a buffer of which the sheet's unknowns are used: the memory is fixed, with no heap.
         let mut plan = [0; MOST_UNKNOWNS];
         let answer = self.answer_line(line, words, &mut plan);
         let mut page = Page::new(out);
@@ -222,27 +216,19 @@ impl Session {
 
 // Writes the answer line.
 fn write_answer(page: &mut Page, number: i32, answer: Result<Done, SheetFault>)
-    requires idle { page.old.begun ≡ false }
-    requires room { page.old.end + 29 ≤ length page.old.bytes.now }
+    requires room { HasRoom (page_model page.old) 29 }
     ensures held { page.new.bytes.ghost_name ≡ page.old.bytes.ghost_name }
     ensures model { page_model page.new ≡ with_text (page_model page.old) (answer_text number answer) }
 {
-    match write_line(page, ANSWER, &[number, number_of(answer), place_of(answer)]) {
-        Ok(()) => {}
-        Err(_) => unreachable(),
-    }
+    write_line(page, ANSWER, &[number, number_of(answer), place_of(answer)]).unwrap();
 }
 
 // Writes the line of a picked plan.
 fn write_plan(page: &mut Page, words: &[i32])
     requires few { length words.now ≤ 24 }
-    requires idle { page.old.begun ≡ false }
-    requires room { page.old.end + 197 ≤ length page.old.bytes.now }
+    requires room { HasRoom (page_model page.old) 197 }
     ensures held { page.new.bytes.ghost_name ≡ page.old.bytes.ghost_name }
     ensures model { page_model page.new ≡ with_text (page_model page.old) (plan_text words.now) }
 {
-    match write_line(page, PICKED_PLAN, words) {
-        Ok(()) => {}
-        Err(_) => unreachable(),
-    }
+    write_line(page, PICKED_PLAN, words).unwrap();
 }

@@ -1,10 +1,10 @@
 // A sheet's calls on the cells of a session, for every kind alike. Faults have their place in the line.
-ghost use Rattle.std.specs.Prelude.{◌≡◌, ◌≤◌, length, Ok, Err, MatchResult};
+// Kept with a `requires` on a line's numbers: posting and picking are public and take plain words.
+ghost use Rattle.std.specs.Prelude.{◌≡◌, ◌≤◌, length, Some, None, Ok, Err, MatchResult};
 ghost use Rattle.lines.specs.Page.{model as page_model};
 ghost use Rattle.sheets.specs.Sheet.{model, model_of, checked, opened, post_answer, post_left};
 ghost use Rattle.sheets.specs.Showing.{show_left};
 ghost use Rattle.sessions.specs.Lines.{checked_in_line, posted_done, bare_refusal_lem as bare_refusal_of, show_check_lem as show_check_of, clear_done, clear_in_line, pick_done, plan_left, ask_answer, ask_left, ask_plan};
-ghost use Rattle.sheets.specs.Picking.{pick_left};
 
 use crate::frame::{Done, Request, placed_in_line};
 use faults::{LineFault, SheetFault};
@@ -12,6 +12,9 @@ use kinds::kind::Kind;
 use lines::page::Page;
 use sheets::shape::Outline;
 use sheets::sheet::{Sheet, check};
+
+// As many unknowns as a sheet may have.
+pub(crate) const MOST_UNKNOWNS: usize = 24;
 
 // Opens a new sheet, unless the check refuses.
 pub(crate) fn open_on<K: Kind>(
@@ -21,137 +24,110 @@ pub(crate) fn open_on<K: Kind>(
 ) -> Result<Outline, SheetFault>
     ensures { MatchResult result (λ outline. (checked unknowns list (length cells.old) ≡ Ok tt) × (model_of cells.new outline ≡ opened K.Kind.arith unknowns list cells.old)) (λ fault. (cells.new ≡ cells.old) × (checked_in_line (checked unknowns list (length cells.old)) ≡ Err fault)) }
 {
-    if let Err(fault) = check::<K>(unknowns, list, cells) {
-        return Err(placed_in_line(fault));
-    }
+    check::<K>(unknowns, list, cells).map_err(placed_in_line)?;
     let sheet = Sheet::<K>::open(cells, unknowns, list);
     Ok(sheet.outline())
 }
 
 // Posts the numbers of an equation line.
-fn post_on<K: Kind>(
-    cells: &mut [K::Cell],
-    outline: &mut Outline,
-    words: &[i32],
-) -> Result<Done, SheetFault>
+fn post<K: Kind>(sheet: &mut Sheet<K>, words: &[i32]) -> Result<Done, SheetFault>
     requires { length words.now ≤ 25 }
-    ensures answer { result ≡ posted_done (post_answer K.Kind.arith (model_of cells.old outline.old) words.now) }
-    ensures left { model_of cells.new outline.new ≡ post_left K.Kind.arith (model_of cells.old outline.old) words.now }
+    ensures held { sheet.new.cells.ghost_name ≡ sheet.old.cells.ghost_name }
+    ensures answer { result ≡ posted_done (post_answer K.Kind.arith (model sheet.old) words.now) }
+    ensures left { model sheet.new ≡ post_left K.Kind.arith (model sheet.old) words.now }
 {
-    let mut sheet = Sheet::<K>::resume(cells, *outline);
-    let answer = sheet.post(words);
-    *outline = sheet.outline();
-    match answer {
-        Ok(verdict) => Ok(Done::Posted(verdict)),
-        Err(fault) => Err(placed_in_line(fault)),
-    }
+    sheet.post(words).map_err(placed_in_line).map(Done::Posted)
 }
 
-// Why a line that must have no numbers is refused.
-fn bare_refusal<K: Kind>(sheet: &Sheet<K>, words: &[i32]) -> Option<SheetFault>
-    ensures { result ≡ bare_refusal_of (model sheet.now) words.now }
+// Refuses a line that must have no numbers.
+fn bare<K: Kind>(sheet: &Sheet<K>, words: &[i32]) -> Result<(), SheetFault>
+    ensures { MatchResult result (λ _. bare_refusal_of (model sheet.now) words.now ≡ None) (λ fault. bare_refusal_of (model sheet.now) words.now ≡ Some fault) }
 {
     if !sheet.stands() {
-        return Some(SheetFault::NoSheet);
+        return Err(SheetFault::NoSheet);
     }
-    if words.len() != 0 {
-        return Some(SheetFault::Line(LineFault::Count));
+    if !words.is_empty() {
+        return Err(SheetFault::Line(LineFault::Count));
     }
-    None
+    Ok(())
 }
 
 // Clears the sheet, as a line without numbers asks.
-fn clear_on<K: Kind>(
-    cells: &mut [K::Cell],
-    outline: &mut Outline,
-    words: &[i32],
-) -> Result<Done, SheetFault>
-    ensures answer { result ≡ clear_done (model_of cells.old outline.old) words.now }
-    ensures left { model_of cells.new outline.new ≡ clear_in_line K.Kind.arith (model_of cells.old outline.old) words.now }
+fn clear<K: Kind>(sheet: &mut Sheet<K>, words: &[i32]) -> Result<Done, SheetFault>
+    ensures held { sheet.new.cells.ghost_name ≡ sheet.old.cells.ghost_name }
+    ensures answer { result ≡ clear_done (model sheet.old) words.now }
+    ensures left { model sheet.new ≡ clear_in_line K.Kind.arith (model sheet.old) words.now }
 {
-    let mut sheet = Sheet::<K>::resume(cells, *outline);
-    if let Some(fault) = bare_refusal(&sheet, words) {
-        return Err(fault);
-    }
-    let _ = sheet.clear();
-    *outline = sheet.outline();
+    bare(sheet, words)?;
+    sheet.clear().unwrap();
     Ok(Done::Cleared)
 }
 
-// Picks the plan of a choice, into a word for each unknown.
-fn pick_into<K: Kind>(
-    cells: &mut [K::Cell],
-    outline: Outline,
-    choice: &[i32],
-    plan: &mut [i32],
-) -> Result<Done, SheetFault>
-    requires few { length choice.now ≤ 25 }
-    requires exact { length plan.old ≡ outline.shape.unknowns }
-    ensures answer { result ≡ pick_done K.Kind.arith (model_of cells.old outline) choice.now }
-    ensures kept { cells.new ≡ cells.old }
-    ensures plan { plan.new ≡ pick_left K.Kind.arith (model_of cells.old outline) choice.now plan.old }
-{
-    let sheet = Sheet::<K>::resume(cells, outline);
-    match sheet.pick(choice, plan) {
-        Ok(()) => Ok(Done::Picked),
-        Err(fault) => Err(placed_in_line(fault)),
-    }
-}
-
 // Picks the plan of a choice, into the first words of `plan`.
-fn pick_on<K: Kind>(
-    cells: &mut [K::Cell],
-    outline: Outline,
+fn pick<K: Kind>(
+    sheet: &Sheet<K>,
     choice: &[i32],
-    plan: &mut [i32],
+    plan: &mut [i32; MOST_UNKNOWNS],
 ) -> Result<Done, SheetFault>
-    requires few { length choice.now ≤ 25 }
-    requires room { 24 ≤ length plan.old }
-    ensures answer { result ≡ pick_done K.Kind.arith (model_of cells.old outline) choice.now }
-    ensures kept { cells.new ≡ cells.old }
-    ensures plan { plan.new ≡ plan_left K.Kind.arith (model_of cells.old outline) choice.now plan.old }
+    requires { length choice.now ≤ 25 }
+    ensures answer { result ≡ pick_done K.Kind.arith (model sheet.now) choice.now }
+    ensures plan { plan.new ≡ plan_left K.Kind.arith (model sheet.now) choice.now plan.old }
 {
-    let n = outline.unknowns();
-    pick_into::<K>(cells, outline, choice, &mut plan[0..n])
+    let n = sheet.outline().unknowns();
+    sheet
+        .pick(choice, &mut plan[..n])
+        .map_err(placed_in_line)
+        .map(|()| Done::Picked)
 }
 
 // Whether the sheet can be shown, as a line without numbers asks.
-fn show_check<K: Kind>(
-    cells: &mut [K::Cell],
-    outline: Outline,
-    words: &[i32],
-) -> Result<Done, SheetFault>
-    ensures answer { result ≡ show_check_of (model_of cells.old outline) words.now }
-    ensures kept { cells.new ≡ cells.old }
+fn show_check<K: Kind>(sheet: &Sheet<K>, words: &[i32]) -> Result<Done, SheetFault>
+    ensures { result ≡ show_check_of (model sheet.now) words.now }
 {
-    let sheet = Sheet::<K>::resume(cells, outline);
-    match bare_refusal(&sheet, words) {
-        None => Ok(Done::Shown),
-        Some(fault) => Err(fault),
+    bare(sheet, words)?;
+    Ok(Done::Shown)
+}
+
+// Does what a line asks of a sheet, with its numbers: a match, since only reading the line tells what is asked. A picked
+// plan is put into the first words of `plan`. Showing is only checked: its lines are written behind the answer.
+fn ask<K: Kind>(
+    sheet: &mut Sheet<K>,
+    request: Request,
+    words: &[i32],
+    plan: &mut [i32; MOST_UNKNOWNS],
+) -> Result<Done, SheetFault>
+    requires { length words.now ≤ 25 }
+    ensures held { sheet.new.cells.ghost_name ≡ sheet.old.cells.ghost_name }
+    ensures answer { result ≡ ask_answer K.Kind.arith (model sheet.old) request words.now }
+    ensures left { model sheet.new ≡ ask_left K.Kind.arith (model sheet.old) request words.now }
+    ensures plan { plan.new ≡ ask_plan K.Kind.arith (model sheet.old) request words.now plan.old }
+{
+    match request {
+        Request::Equation => post(sheet, words),
+        Request::Clear => clear(sheet, words),
+        Request::Pick => pick(sheet, words, plan),
+        Request::Show => show_check(sheet, words),
     }
 }
 
-// Does what a line asks of a sheet, with its numbers. A picked plan is put into the first words of `plan`. A showing is
-// only checked: its lines are written behind the answer.
-pub(crate) fn ask<K: Kind>(
+// Takes a session's sheet up again in its cells, and does what a line asks of it. Cells and outline are kept apart: the
+// cells of each kind are a field of their own, and the outline is that of either.
+pub(crate) fn ask_on<K: Kind>(
     cells: &mut [K::Cell],
     outline: &mut Outline,
     request: Request,
     words: &[i32],
-    plan: &mut [i32],
+    plan: &mut [i32; MOST_UNKNOWNS],
 ) -> Result<Done, SheetFault>
-    requires few { length words.now ≤ 25 }
-    requires room { 24 ≤ length plan.old }
+    requires { length words.now ≤ 25 }
     ensures answer { result ≡ ask_answer K.Kind.arith (model_of cells.old outline.old) request words.now }
     ensures left { model_of cells.new outline.new ≡ ask_left K.Kind.arith (model_of cells.old outline.old) request words.now }
     ensures plan { plan.new ≡ ask_plan K.Kind.arith (model_of cells.old outline.old) request words.now plan.old }
 {
-    match request {
-        Request::Equation => post_on::<K>(cells, outline, words),
-        Request::Clear => clear_on::<K>(cells, outline, words),
-        Request::Pick => pick_on::<K>(cells, *outline, words, plan),
-        Request::Show => show_check::<K>(cells, *outline, words),
-    }
+    let mut sheet = Sheet::<K>::resume(cells, *outline);
+    let answer = ask(&mut sheet, request, words, plan);
+    *outline = sheet.outline();
+    answer
 }
 
 // Shows the sheet on a page; where the page cannot take it, the page is kept.

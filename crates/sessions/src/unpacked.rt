@@ -4,20 +4,16 @@ ghost use Rattle.lines.specs.Line.{frame_of as line_frame, numbers, refusal};
 ghost use Rattle.sessions.specs.Frames.{known, frame_kind};
 ghost use Rattle.sessions.specs.Wiped.{wiped};
 
-use crate::frame::{Frame, KNOWN, frame_of};
+use crate::frame::{Frame, KNOWN};
 use faults::LineFault;
 use lines::reading::{MOST_NUMBERS, read_line};
 
-// What a line asks for, with so many numbers.
-#[derive(Clone, Copy)]
-pub(crate) struct Asked {
-    pub(crate) frame: Frame,
-    pub(crate) count: usize,
-}
-
-// Holds the lent words while a line is worked on. At its end, on every way out, they are zero again.
+// Holds the lent words while a line is worked on, the line's numbers in the first `count` of them. At its end, on every
+// way out, they are zero again: all that a line may fill, so that the count stays beside the words.
 pub(crate) struct Unpacked<'a> {
     words: &'a mut [i32],
+    count: usize,
+    ghost within: { count ≤ length words.now },
 }
 
 // Zeroes the words that a line may be unpacked into, and keeps those beyond.
@@ -25,17 +21,15 @@ fn wipe(words: &mut [i32])
     ensures { words.new ≡ wiped words.old }
 {
     let n = words.len().min(MOST_NUMBERS);
-    for i in 0..n {
-        words[i] = 0;
-    }
+    words[..n].fill(0);
 }
 
 impl Drop for Unpacked<'_> {
     fn drop(self)
         ensures { self.exit.0.now ≡ wiped self.entry.words.now }
     {
-        wipe(self.words);
-        let Unpacked { words: _ } = self;
+        let Unpacked { words, count: _ } = self;
+        wipe(words);
     }
 }
 
@@ -43,32 +37,28 @@ impl<'a> Unpacked<'a> {
     pub(crate) fn new(words: &'a mut [i32]) -> Unpacked<'a>
         ensures held { result.words.ghost_name ≡ words.entry.ghost_name }
         ensures words { result.words.now ≡ words.old }
+        ensures count { result.count ≡ 0 }
     {
-        Unpacked { words }
+        Unpacked { words, count: 0 }
     }
 
-    // Reads a line that a session knows, its numbers into the first words.
-    pub(crate) fn read(&mut self, line: &[u8]) -> Result<Asked, LineFault>
+    // Reads a line that a session knows, its numbers into the first words, and tells what it asks for.
+    pub(crate) fn read(&mut self, line: &[u8]) -> Result<Frame, LineFault>
         requires { 25 ≤ length self.old.words.now }
         ensures held { self.new.words.ghost_name ≡ self.old.words.ghost_name }
-        ensures asked { MatchResult result (λ asked. (refusal known line.now ≡ None) × (asked.frame ≡ frame_kind (line_frame line.now)) × (asked.count ≤ 25) × (take asked.count self.new.words.now ≡ numbers line.now)) (λ fault. refusal known line.now ≡ Some fault) }
+        ensures asked { MatchResult result (λ frame. (refusal known line.now ≡ None) × (frame ≡ frame_kind (line_frame line.now)) × (self.new.count ≤ 25) × (take self.new.count self.new.words.now ≡ numbers line.now)) (λ fault. refusal known line.now ≡ Some fault) }
         ensures len { length self.new.words.now ≡ length self.old.words.now }
         ensures wiped { wiped self.new.words.now ≡ wiped self.old.words.now }
     {
-        match read_line(line, &KNOWN, self.words) {
-            Ok(read) => Ok(Asked {
-                frame: frame_of(read.frame),
-                count: read.count,
-            }),
-            Err(fault) => Err(fault),
-        }
+        let read = read_line(line, &KNOWN, self.words)?;
+        self.count = read.count;
+        Frame::try_from(read.frame)
     }
 
-    // The first words.
-    pub(crate) fn first(&self, count: usize) -> &[i32]
-        requires { count ≤ length self.now.words.now }
-        ensures { result.now ≡ take count self.now.words.now }
+    // The numbers of the line that was read.
+    pub(crate) fn numbers(&self) -> &[i32]
+        ensures { result.now ≡ take self.now.count self.now.words.now }
     {
-        &self.words[0..count]
+        &self.words[..self.count]
     }
 }

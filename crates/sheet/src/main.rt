@@ -3,19 +3,19 @@
 #![tactic(auto)]
 
 use input::Cutter;
+use input::reading::each_chunk;
 use lines::reading::MOST_NUMBERS;
 use sessions::session::{OUTPUT, Session};
 use std::io;
-use std::io::{BufRead, BufReader, BufWriter, Write};
+use std::io::{BufReader, BufWriter, Write};
 
 // Lines beyond this one are not read.
 const LAST_LINE: i32 = 1_000_000;
 
-// A session, and the line that is being read.
+// A session, and the memory that its answers are written to: fixed arrays, with no heap.
 #[derive(Drop)]
 struct Desk {
     session: Session,
-    line: Cutter,
     // How many lines were answered.
     lines: i32,
     out: [u8; OUTPUT],
@@ -26,7 +26,6 @@ impl Desk {
     fn new() -> Desk {
         Desk {
             session: Session::new(),
-            line: Cutter::new(),
             lines: 0,
             out: [0; OUTPUT],
             words: [0; MOST_NUMBERS],
@@ -38,62 +37,35 @@ impl Desk {
         self.lines >= LAST_LINE
     }
 
-    // A line is complete: writes its answer.
-    fn end_line<W: Write>(&mut self, to: &mut W) -> io::Result<()> {
-        self.lines = self.lines.saturating_add(1);
-        let number = self.lines;
-        if let Ok(n) = self
-            .session
-            .call(number, self.line.line(), &mut self.out, &mut self.words)
-        {
-            to.write_all(&self.out[0..n])?;
-        }
-        self.line.clear();
-        Ok(())
-    }
-
-    // Takes a chunk of the input, and answers each line that is complete.
-    fn take<W: Write>(&mut self, chunk: &[u8], to: &mut W) -> io::Result<()> {
-        let mut at = 0;
-        for _ in 0..chunk.len() {
-            if at > chunk.len() || self.is_done() {
-                break;
-            }
-            let Some(k) = self.line.feed(&chunk[at..]) else {
-                break;
-            };
-            at = at.saturating_add(k);
-            self.end_line(to)?;
-        }
-        Ok(())
-    }
-
-    // The input is at its end: a last line that lacks its line feed counts if it has a byte.
-    fn finish<W: Write>(&mut self, to: &mut W) -> io::Result<()> {
-        if self.is_done() || self.line.line().is_empty() {
+    // Writes the answer of a line; nothing to a line behind the last that is read.
+    fn answer<W: Write>(&mut self, line: &[u8], to: &mut W) -> io::Result<()> {
+        if self.is_done() {
             return Ok(());
         }
-        self.end_line(to)
+        self.lines = self.lines.saturating_add(1);
+        match self
+            .session
+            .call(self.lines, line, &mut self.out, &mut self.words)
+        {
+            Ok(n) => to.write_all(&self.out[..n]),
+            Err(_) => Ok(()),
+        }
     }
 }
 
 fn main(rt: HostRuntime) -> io::Result<()> {
     let mut input = BufReader::new(rt.alloc(), rt.stdin())?;
     let mut out = BufWriter::new(rt.alloc(), rt.stdout())?;
+    let mut cutter = Cutter::new();
     let mut desk = Desk::new();
-    for _ in 0..u64::MAX {
-        if desk.is_done() {
-            break;
-        }
-        let chunk = input.fill_buf()?;
-        let len = chunk.len();
-        if len == 0 {
-            break;
-        }
-        desk.take(chunk, &mut out)?;
-        input.consume(len);
+    each_chunk(&mut input, |chunk| {
+        cutter.each_line(chunk, |line| desk.answer(line, &mut out))?;
         out.flush()?;
+        Ok(!desk.is_done())
+    })?;
+    // A last line that lacks its line feed counts if it has a byte.
+    if !cutter.line().is_empty() {
+        desk.answer(cutter.line(), &mut out)?;
     }
-    desk.finish(&mut out)?;
     out.flush()
 }

@@ -6,41 +6,9 @@ use Rattle.sessions.specs.Law.{LineLaw}
 use Rattle.sessions.specs.Session.{View, view, line_after, line_plan, answer_text, replied, rest_text, unknowns_of, picked_of, reply, call_answer, kept_if}
 use Rattle.sessions.specs.Wiped.{wiped}
 use Rattle.sessions.specs.declared.frame.Done.TheVariants.{Picked, Shown}
-use Rattle.sessions.proofs.Lawful.{line_law, some_none}
-use Rattle.sessions.proofs.Replies.{Stands, small, shown_stands, plan_picked, reply_written, few_bytes, few_words, enough_lent}
+use Rattle.sessions.proofs.Lawful.{line_law}
+use Rattle.sessions.proofs.Replies.{Stands, small, shown_stands, plan_picked, reply_written, enough_lent}
 use Rattle.sessions.proofs.session.Session.call.Goals as goal
-
-pub returns-then-out-lt-OUTPUT : goal.returns-then-out-lt-OUTPUT
-returns-then-out-lt-OUTPUT c =
-    let v = view c.args.self.now in
-    let line = c.args.line.now in
-    let out = c.args.out.now in
-    let words = c.args.words.now in
-    let n = few_bytes (length out) (length words) c.if-out-lt-OUTPUT.true in
-    record {
-      value = ap (λ (o : Option SheetFault). call_answer o (reply v c.args.number line)) (sym n);
-      within = tt;
-      out = ap (λ (o : Option SheetFault). kept_if o out (over out 0 (reply v c.args.number line))) (sym n);
-      words = ap (λ (o : Option SheetFault). kept_if o words (wiped words)) (sym n);
-      session = ap (λ (o : Option SheetFault). kept_if o v (line_after v line)) (sym n);
-      law = λ e. absurd (some_none (sym n ∙ e));
-    }
-
-pub returns-then-words-lt-MOST_NUMBERS : goal.returns-then-words-lt-MOST_NUMBERS
-returns-then-words-lt-MOST_NUMBERS c =
-    let v = view c.args.self.now in
-    let line = c.args.line.now in
-    let out = c.args.out.now in
-    let words = c.args.words.now in
-    let n = few_words (length out) (length words) c.if-out-lt-OUTPUT.false c.if-words-lt-MOST_NUMBERS.true in
-    record {
-      value = ap (λ (o : Option SheetFault). call_answer o (reply v c.args.number line)) (sym n);
-      within = tt;
-      out = ap (λ (o : Option SheetFault). kept_if o out (over out 0 (reply v c.args.number line))) (sym n);
-      words = ap (λ (o : Option SheetFault). kept_if o words (wiped words)) (sym n);
-      session = ap (λ (o : Option SheetFault). kept_if o v (line_after v line)) (sym n);
-      law = λ e. absurd (some_none (sym n ∙ e));
-    }
 
 pub returns : goal.returns
 unfolding reply

@@ -1,41 +1,54 @@
-use Rattle.std.proofs.Common.{◌≡◌, ℕ, ◌≤◌, List, ◌++◌, length, take, drop, ℤ, Option, sym, refl, ap, ◌∙◌, arith}
+use Rattle.std.proofs.Common.{◌≡◌, ℕ, true, List, ◌++◌, length, take, drop, ℤ, Ok, Option, sym, refl, ap, ◌∙◌, arith}
+use Rattle.std.proofs.lemmas.Result.{err_from_is_err_and}
+use Rattle.std.proofs.lemmas.Bool.Decides.{nat_tests}
 use Rattle.faults.specs.declared.LineFault.{LineFault}
-use Rattle.lines.specs.Line.{numbers, count_of, words_left}
+use Rattle.lines.specs.Line.{frame_of, has, numbers, count_of, words_left}
 use Rattle.lines.specs.declared.reading.Line.{Line}
 use Rattle.lines.proofs.Accepting.{accepted, enough, read_ok, read_err, words_read}
 use Rattle.lines.proofs.Words.{length_words_of}
-use Rattle.sessions.specs.Frames.{known, frame_kind}
+use Rattle.sessions.specs.Frames.{known, frame_kind, frame_named}
 use Rattle.sessions.specs.Wiped.{wiped}
-use Rattle.sessions.proofs.Wiping.{length_read, wiped_read}
+use Rattle.sessions.proofs.Wiping.{wiped_read}
 use Rattle.sessions.proofs.unpacked.Unpacked.read.Goals as goal
 
-pub returns-in-Ok : goal.returns-in-Ok
-returns-in-Ok c =
+-- a frame that is known is named
+named : (frame : ℕ) → has frame known ≡ true → frame_named frame ≡ Ok (frame_kind frame)
+named frame h = grind (arith, nat_tests)
+
+pub returns-in_err-read-clause-asked : goal.returns-in_err-read-clause-asked
+returns-in_err-read-clause-asked c =
+    let p = err_from_is_err_and c.from_residual.result c.from_residual.ensures.1 in
+    let e = read_err (length c.args.self.now.words.now) known c.args.line.now c.in_err-read.field-0.0 c.requires (sym c.read_line.ensures.value ∙ c.in_err-read.was) in
+    rw (p.1, p.2) e
+
+pub invariant_of-self-2 : goal.invariant_of-self-2
+invariant_of-self-2 c =
+    let a = read_ok (length c.args.self.now.words.now) known c.args.line.now c.in_ok-read.read c.requires (sym c.read_line.ensures.value ∙ c.in_ok-read.was) in
+    let w = accepted known c.args.line.now a.0 in
+    let k = ap (λ (l : Line). l.count) a.1 in
+    record { within = omega (arith, w.sized, w.short, k, c.requires, c.read_line.auto.words) }
+
+pub returns-clause-asked : goal.returns-clause-asked
+returns-clause-asked c =
     let bytes = c.args.line.now in
     let old = c.args.self.now.words.now in
     let words : List ℤ = c.read_line.new.words in
-    let a = read_ok (length old) known bytes c.in-Ok.read c.requires (sym c.in-Ok.ensures.value) in
+    let a = read_ok (length old) known bytes c.in_ok-read.read c.requires (sym c.read_line.ensures.value ∙ c.in_ok-read.was) in
     let w = accepted known bytes a.0 in
     let k = ap (λ (l : Line). l.count) a.1 in
-    let few : count_of bytes ≤ 25 = omega (arith, w.sized, w.short) in
-    let left : words ≡ numbers bytes ++ drop (count_of bytes) old = c.in-Ok.ensures.after ∙ ap (λ (o : Option LineFault). words_left o bytes old) (enough (length old) known bytes c.requires ∙ a.0) in
-    let long = length_words_of (count_of bytes) (drop 4 bytes) in
-    record {
-      held = refl;
-      asked = (
-        a.0,
-        c.frame_of.ensures ∙ ap (λ (l : Line). frame_kind l.frame) (sym a.1),
-        omega (arith, few, k),
-        ap (λ (m : ℕ). take m words) (sym k) ∙ ap (take (count_of bytes)) c.in-Ok.ensures.after ∙ words_read (length old) known bytes old c.requires a.0,
-      );
-      len = ap length left ∙ length_read (numbers bytes) old (count_of bytes) long (omega (arith, few, c.requires));
-      wiped = ap wiped left ∙ wiped_read (numbers bytes) old (count_of bytes) long few c.requires;
-    }
+    let n : c.try_from.result ≡ Ok (frame_kind (frame_of bytes)) = c.try_from.ensures ∙ ap (λ (l : Line). frame_named l.frame) (sym a.1) ∙ named (frame_of bytes) w.known_frame in
+    rw n (
+      a.0,
+      refl,
+      omega (arith, w.sized, w.short, k),
+      ap (λ (m : ℕ). take m words) (sym k) ∙ ap (take (count_of bytes)) c.read_line.ensures.after ∙ words_read (length old) known bytes old c.requires a.0,
+    )
 
-pub returns-in-Err : goal.returns-in-Err
-returns-in-Err c =
+pub returns-clause-wiped : goal.returns-clause-wiped
+returns-clause-wiped c =
     let bytes = c.args.line.now in
     let old = c.args.self.now.words.now in
-    let e = read_err (length old) known bytes c.in-Err.fault c.requires (sym c.in-Err.ensures.value) in
-    let left : c.read_line.new.words ≡ old = c.in-Err.ensures.after ∙ ap (λ (o : Option LineFault). words_left o bytes old) (enough (length old) known bytes c.requires ∙ e) in
-    record { held = refl; asked = e; len = ap length left; wiped = ap wiped left }
+    let a = read_ok (length old) known bytes c.in_ok-read.read c.requires (sym c.read_line.ensures.value ∙ c.in_ok-read.was) in
+    let w = accepted known bytes a.0 in
+    let left : c.read_line.new.words ≡ numbers bytes ++ drop (count_of bytes) old = c.read_line.ensures.after ∙ ap (λ (o : Option LineFault). words_left o bytes old) (enough (length old) known bytes c.requires ∙ a.0) in
+    ap wiped left ∙ wiped_read (numbers bytes) old (count_of bytes) (length_words_of (count_of bytes) (drop 4 bytes)) (omega (arith, w.sized, w.short)) c.requires
