@@ -3,52 +3,30 @@ use input::Cutter;
 use lines::reading::MOST_NUMBERS;
 use sessions::session::{OUTPUT, Session};
 
-// Where the expected bytes go on behind what is written for a line; None where something else is written.
-fn reply(
+// What is expected behind what is written for a line; None where something else is written.
+fn reply<'a>(
     session: &mut Session,
     number: i32,
     line: &[u8],
-    expected: &[u8],
-    at: usize,
-) -> Option<usize> {
+    expected: &'a [u8],
+) -> Option<&'a [u8]> {
     let mut out = [0u8; OUTPUT];
     let mut words = [0i32; MOST_NUMBERS];
-    let Ok(n) = session.call(number, line, &mut out, &mut words) else {
-        return None;
-    };
-    if at > expected.len() || n > expected.len() - at {
-        return None;
-    }
-    if &out[0..n] == &expected[at..at + n] {
-        Some(at + n)
-    } else {
-        None
-    }
+    let n = session.call(number, line, &mut out, &mut words).ok()?;
+    expected.strip_prefix(&out[..n])
 }
 
 // Whether a new session answers the lines by exactly these bytes.
 fn answers(lines: &[u8], expected: &[u8]) -> bool {
     let mut session = Session::new();
-    let mut line = Cutter::new();
     let mut number: i32 = 0;
-    let mut at = 0;
-    let mut told = 0;
-    for _ in 0..lines.len() {
-        if at > lines.len() {
-            break;
-        }
-        let Some(k) = line.feed(&lines[at..]) else {
-            break;
-        };
-        at = at.saturating_add(k);
+    let mut expected = expected;
+    let told = Cutter::new().each_line(lines, |line| -> Result<(), ()> {
         number = number.saturating_add(1);
-        match reply(&mut session, number, line.line(), expected, told) {
-            Some(next) => told = next,
-            None => return false,
-        }
-        line.clear();
-    }
-    told == expected.len()
+        expected = reply(&mut session, number, line, expected).ok_or(())?;
+        Ok(())
+    });
+    told == Ok(()) && expected.is_empty()
 }
 
 // 3x + 5y = 1. Were a quotient rounded toward zero, the plan would be (2, -1); were the last move dropped in place of the

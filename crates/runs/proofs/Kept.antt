@@ -1,5 +1,5 @@
 -- The promise of a run, from the law of its opening and those of single calls. Assumes nothing.
-use Rattle.std.proofs.Common.{◌≡◌, ℕ, List, [], ◌∷◌, ◌++◌, ℤ, sym, refl, ap, ◌∙◌, subst, subst₂, arith}
+use Rattle.std.proofs.Common.{◌≡◌, ℕ, List, [], ◌∷◌, ◌++◌, ℤ, sym, refl, ap, ◌∙◌, subst, subst₂}
 use Rattle.kinds.specs.Kind.{Arithmetic}
 use Rattle.kinds.specs.Equation.{Equation}
 use Rattle.plans.specs.Solution.{Holds}
@@ -7,9 +7,8 @@ use Rattle.sheets.specs.Cells.{contents_in}
 use Rattle.sheets.specs.Clearing.{clear_left}
 use Rattle.sheets.specs.Law.{StandsFor, Sound}
 use Rattle.sheets.specs.Sheet.{Model, post_left}
-use Rattle.runs.specs.declared.call.Answer.{Answer}
 use Rattle.runs.specs.declared.call.Step.{Step}
-use Rattle.runs.specs.Calls.{Called, posting, clearing, picking, showing, calls_in, answers_in, pairs_in}
+use Rattle.runs.specs.Calls.{Answered, Called, posting, clearing, picking, showing, calls_in, answers_in, pairs_in}
 use Rattle.runs.specs.Laws.{CallLaw, CallsLaw}
 use Rattle.runs.specs.Run.{State, answer_to, left_by, answers, left}
 use Rattle.runs.specs.Promise.{after_call, in_force_from, RightlyAnswered, sheet_before, Promise}
@@ -22,7 +21,7 @@ rest_same : {X : Type 0} {x y : X} {xs ys : List X} → x ∷ xs ≡ y ∷ ys �
 rest_same e = cc
 
 none_is_some : {X : Type 0} {x : X} {xs : List X} → [] ≡ x ∷ xs → ⊥
-none_is_some e = let z : ◌≡◌ {A = ℕ} 0 1 = cc in omega arith
+none_is_some e = absurd cc
 
 module _ {N C : Type 0} (a : Arithmetic N C) where
   -- the sheet m has n unknowns, is sound, and stands for the equations es
@@ -53,7 +52,7 @@ module _ {N C : Type 0} (a : Arithmetic N C) where
       subst (λ (x : ℕ). RightlyAnswered a x es s.sheet ws (answer_to a s (posting ws))) k.unknowns (rightly a s.sheet ws law es k.sound (stands_for k))
 
   -- calls made from the state s on, with their answers
-  abbrev paired : State C → List Called → List (Called × Answer)
+  abbrev paired : State C → List Called → List (Called × Answered)
   paired s [] = []
   paired s (c ∷ cs) = (c, answer_to a s c) ∷ paired (left_by a s c) cs
 
@@ -65,17 +64,17 @@ module _ {N C : Type 0} (a : Arithmetic N C) where
 
   -- every posting among them is rightly answered
   posting_at : (n : ℕ) (es : List Equation) (s : State C) (cs : List Called) → CallsLaw a s cs → Keeps n es s.sheet →
-      (before behind : List (Called × Answer)) (ws : List ℤ) (r : Answer) → paired s cs ≡ before ++ ((posting ws, r) ∷ behind) →
+      (before behind : List (Called × Answered)) (ws : List ℤ) (r : Answered) → paired s cs ≡ before ++ ((posting ws, r) ∷ behind) →
       RightlyAnswered a n (in_force_from n es before) (sheet_before a s before) ws r
   posting_at n es s [] laws k [] behind ws r e = absurd (none_is_some e)
   posting_at n es s [] laws k (p ∷ before) behind ws r e = absurd (none_is_some e)
   posting_at n es s (c ∷ cs) laws k [] behind ws r e =
-      let here : c ≡ posting ws = ap (λ (p : Called × Answer). p.0) (first_same e) in
-      let answer : answer_to a s (posting ws) ≡ r = ap (answer_to a s) (sym here) ∙ ap (λ (p : Called × Answer). p.1) (first_same e) in
+      let here : c ≡ posting ws = ap (λ (p : Called × Answered). p.0) (first_same e) in
+      let answer : answer_to a s (posting ws) ≡ r = ap (answer_to a s) (sym here) ∙ ap (λ (p : Called × Answered). p.1) (first_same e) in
       let law : CallLaw a s (posting ws) = subst (CallLaw a s) here laws.0 in
       subst (RightlyAnswered a n es s.sheet ws) answer (posting_right s ws law n es k)
   posting_at n es s (c ∷ cs) laws k (p ∷ before) behind ws r e =
-      let P : Called × Answer → Type 0 =
+      let P : Called × Answered → Type 0 =
       λ x. RightlyAnswered a n (in_force_from n (after_call n x.0 x.1 es) before) (sheet_before a (left_by a s x.0) before) ws r in
       subst P (first_same e) (posting_at n (after_call n c (answer_to a s c) es) (left_by a s c) cs laws.1 (call_keeps s c laws.0 n es k) before behind ws r (rest_same e))
 
@@ -85,17 +84,17 @@ module _ {N C : Type 0} (a : Arithmetic N C) where
   pairs_made s [] (c ∷ cs) e f = absurd (none_is_some e)
   pairs_made s (step ∷ steps) [] e f = absurd (none_is_some (sym e))
   pairs_made s (step ∷ steps) (c ∷ cs) e f =
-      ap (λ (x : Called). (x, step.answer) ∷ pairs_in steps) (first_same e) ∙ ap (λ (x : Answer). (c, x) ∷ pairs_in steps) (first_same f)
-      ∙ ap (λ (ps : List (Called × Answer)). (c, answer_to a s c) ∷ ps) (pairs_made (left_by a s c) steps cs (rest_same e) (rest_same f))
+      ap (λ (x : Called). (x, step.answer) ∷ pairs_in steps) (first_same e) ∙ ap (λ (x : Answered). (c, x) ∷ pairs_in steps) (first_same f)
+      ∙ ap (λ (ps : List (Called × Answered)). (c, answer_to a s c) ∷ ps) (pairs_made (left_by a s c) steps cs (rest_same e) (rest_same f))
 
   -- the promise, of the calls and answers that the steps hold and of the sheet that is left
   pub promise_kept : (n : ℕ) (s : State C) (cs : List Called) → Keeps n [] s.sheet → CallsLaw a s cs → (steps : List Step) (m : Model C) →
       calls_in steps ≡ cs → answers_in steps ≡ answers a s cs → m ≡ (left a s cs).sheet → Promise a s (pairs_in steps) m
   promise_kept n s cs k laws steps m e f g =
       let pairs : pairs_in steps ≡ paired s cs = pairs_made s steps cs e f in
-      let K : List (Called × Answer) → Model C → Type 0 = λ ps x. Keeps n (in_force_from n [] ps) x in
+      let K : List (Called × Answered) → Model C → Type 0 = λ ps x. Keeps n (in_force_from n [] ps) x in
       let kept : K (pairs_in steps) m = subst₂ K (sym pairs) (sym g) (run_keeps n [] s cs laws k) in
       let G : ℕ → Type 0 = λ x. Holds a x (in_force_from x [] (pairs_in steps)) (contents_in a x m.moves m.cells) in
-      let R : List (Called × Answer) → List ℤ → Answer → ℕ → Type 0 = λ before ws r x. RightlyAnswered a x (in_force_from x [] before) (sheet_before a s before) ws r in
+      let R : List (Called × Answered) → List ℤ → Answered → ℕ → Type 0 = λ before ws r x. RightlyAnswered a x (in_force_from x [] before) (sheet_before a s before) ws r in
       let n_is : n ≡ m.unknowns = sym kept.unknowns in
       record { unknowns = kept.unknowns ∙ sym k.unknowns; general = subst G n_is kept.holds; postings = λ before behind ws r at. subst (R before ws r) n_is (posting_at n [] s cs laws k before behind ws r (sym pairs ∙ at)) }

@@ -15,30 +15,28 @@ use Rattle.sheets.specs.Sheet.{Model, stands, word_fault, outcome_of, answer_unl
 use Rattle.sheets.specs.Words.{is_refused}
 use Rattle.sheets.specs.declared.posting.Verdict.{Verdict}
 use Rattle.sheets.specs.declared.posting.Verdict.TheVariants.{Taken, Implied as IsImplied}
-use Rattle.runs.specs.declared.call.Answer.TheVariants.{Refused}
-use Rattle.runs.specs.Calls.{posting, clearing, verdict_answer_lem, plain_answer_lem}
+use Rattle.runs.specs.Calls.{posting, clearing, verdict_answer, plain_answer}
 use Rattle.runs.specs.Laws.{PostingLaw, ClearingLaw}
 use Rattle.runs.specs.Promise.{after_call, judged, GoesThrough, RightlyAnswered}
 
 -- a refusal is answered as such
-refused_iff : (r : Result Verdict SheetFault) (fault : SheetFault) → (verdict_answer_lem r ≡ Refused fault) ↔ (r ≡ Err fault)
-refused_iff (Ok Taken) fault = (λ e. let z : ◌≡◌ {A = ℕ} 0 1 = cc in absurd (omega arith), λ e. let z : ◌≡◌ {A = ℕ} 0 1 = cc in absurd (omega arith))
-refused_iff (Ok IsImplied) fault = (λ e. let z : ◌≡◌ {A = ℕ} 0 1 = cc in absurd (omega arith), λ e. let z : ◌≡◌ {A = ℕ} 0 1 = cc in absurd (omega arith))
-refused_iff (Err f) fault = (λ e. let s : f ≡ fault = cc in ap Err s, λ e. let s : f ≡ fault = cc in ap Refused s)
+refused_iff : (r : Result Verdict SheetFault) (fault : SheetFault) → (verdict_answer r ≡ Err fault) ↔ (r ≡ Err fault)
+refused_iff (Ok verdict) fault = (λ e. absurd cc, λ e. absurd cc)
+refused_iff (Err f) fault = (λ e. let s : f ≡ fault = cc in ap Err s, λ e. let s : f ≡ fault = cc in ap Err s)
 
 -- what a posting puts in force
-same_force : (n : ℕ) (ws : List ℤ) (es : List Equation) (r : Result Verdict SheetFault) → in_force_after r (equation_of n ws) es ≡ after_call n (posting ws) (verdict_answer_lem r) es
+same_force : (n : ℕ) (ws : List ℤ) (es : List Equation) (r : Result Verdict SheetFault) → in_force_after r (equation_of n ws) es ≡ after_call n (posting ws) (verdict_answer r) es
 same_force n ws es (Ok Taken) = refl
 same_force n ws es (Ok IsImplied) = refl
 same_force n ws es (Err fault) = refl
 
 -- what a clearing leaves in force
-same_cleared : (n : ℕ) (es : List Equation) (r : Result Unit SheetFault) → in_force_cleared r es ≡ after_call n clearing (plain_answer_lem r) es
+same_cleared : (n : ℕ) (es : List Equation) (r : Result Unit SheetFault) → in_force_cleared r es ≡ after_call n clearing (plain_answer r) es
 same_cleared n es (Ok _) = refl
 same_cleared n es (Err fault) = refl
 
 true_not_false : true ≡ false → ⊥
-true_not_false e = let z : ◌≡◌ {A = ℕ} 0 1 = cc in omega arith
+true_not_false e = absurd cc
 
 module _ {N C : Type 0} (a : Arithmetic N C) (m : Model C) where
   -- what a sheet t of as many unknowns stands for
@@ -76,12 +74,12 @@ module _ {N C : Type 0} (a : Arithmetic N C) (m : Model C) where
 
   module _ (ws : List ℤ) where
     -- a posting that goes through is answered by a judgement
-    says : (V : Judgement → Type 0) → ((j : Judgement) → judgement_of (post_answer a m ws) ≡ Some j → V j) → GoesThrough (verdict_answer_lem (post_answer a m ws)) →
-        (j : Judgement) × (verdict_answer_lem (post_answer a m ws) ≡ judged j) × V j
+    says : (V : Judgement → Type 0) → ((j : Judgement) → judgement_of (post_answer a m ws) ≡ Some j → V j) → GoesThrough (verdict_answer (post_answer a m ws)) →
+        (j : Judgement) × (verdict_answer (post_answer a m ws) ≡ judged j) × V j
     says V law goes = by (stands m) (eqb (length ws) (m.unknowns + 1)) (find (is_refused a) ws) (outcome_of a m ws) law goes
       where
-        by : (s c : Bool) (w : Option ℕ) (o : Outcome N) → ((j : Judgement) → judgement_of (answer s c w o) ≡ Some j → V j) → GoesThrough (verdict_answer_lem (answer s c w o)) →
-            (j : Judgement) × (verdict_answer_lem (answer s c w o) ≡ judged j) × V j
+        by : (s c : Bool) (w : Option ℕ) (o : Outcome N) → ((j : Judgement) → judgement_of (answer s c w o) ≡ Some j → V j) → GoesThrough (verdict_answer (answer s c w o)) →
+            (j : Judgement) × (verdict_answer (answer s c w o) ≡ judged j) × V j
         by false c w o law goes = absurd (goes.has_unknowns refl)
         by true false w o law goes = absurd (goes.right_count refl)
         by true true (Some i) o law goes = absurd (goes.words_admitted i refl)
@@ -91,11 +89,11 @@ module _ {N C : Type 0} (a : Arithmetic N C) (m : Model C) where
         by true true None overflow law goes = absurd (goes.no_overflow refl)
 
     module _ (law : PostingLaw a m ws (post_answer a m ws) (post_left a m ws)) (es : List Equation) (sound : Sound a m) (holds : StandsFor a m es) where
-      pub rightly : RightlyAnswered a m.unknowns es m ws (verdict_answer_lem (post_answer a m ws))
+      pub rightly : RightlyAnswered a m.unknowns es m ws (verdict_answer (post_answer a m ws))
       rightly =
           let r = post_answer a m ws in
           let exact = law.refusals in
-          let R : (fault : SheetFault) → (verdict_answer_lem r ≡ Refused fault) ↔ (r ≡ Err fault) = refused_iff r in
+          let R : (fault : SheetFault) → (verdict_answer r ≡ Err fault) ↔ (r ≡ Err fault) = refused_iff r in
           record {
             no_unknowns = (λ e. stands_not sound (exact.no_sheet.0 ((R _).0 e)), λ z. (R _).1 (exact.no_sheet.1 (none_stands z)));
             count = (λ e. let k = exact.count.0 ((R _).0 e) in (stands_some k.0, k.1), λ k. (R _).1 (exact.count.1 (some_stands sound k.0, k.1)));
@@ -110,11 +108,11 @@ module _ {N C : Type 0} (a : Arithmetic N C) (m : Model C) where
             verdict = says (Judged a.modulus m.unknowns es (equation_of m.unknowns ws)) (law.law.verdict es holds);
           }
 
-      pub left_holds : Holds a m.unknowns (after_call m.unknowns (posting ws) (verdict_answer_lem (post_answer a m ws)) es)
+      pub left_holds : Holds a m.unknowns (after_call m.unknowns (posting ws) (verdict_answer (post_answer a m ws)) es)
           (contents_in a m.unknowns (post_left a m ws).moves (post_left a m ws).cells)
       left_holds = stands_as (post_left a m ws) law.law.unknowns (same_force m.unknowns ws es (post_answer a m ws)) (law.law.in_force es holds)
 
   -- a clearing
   pub cleared_holds : ClearingLaw a m (clear_answer m) (clear_left a m) → (es : List Equation) → StandsFor a m es →
-      Holds a m.unknowns (after_call m.unknowns clearing (plain_answer_lem (clear_answer m)) es) (contents_in a m.unknowns (clear_left a m).moves (clear_left a m).cells)
+      Holds a m.unknowns (after_call m.unknowns clearing (plain_answer (clear_answer m)) es) (contents_in a m.unknowns (clear_left a m).moves (clear_left a m).cells)
   cleared_holds law es holds = stands_as (clear_left a m) law.law.unknowns (same_cleared m.unknowns es (clear_answer m)) (law.law.in_force es holds)

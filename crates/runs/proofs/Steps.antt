@@ -4,9 +4,8 @@ use lib.ListN.{length-map}
 use Rattle.std.proofs.lemmas.List.{get_or-map, take_more_set, drop_more, take_all, drop_all}
 use lib.Seq.{map-set, map-set_same}
 use Rattle.kinds.specs.Kind.{Arithmetic}
-use Rattle.runs.specs.declared.call.Answer.{Answer}
 use Rattle.runs.specs.declared.call.Step.{Step}
-use Rattle.runs.specs.Calls.{Called, called, calls_in, answers_in}
+use Rattle.runs.specs.Calls.{Answered, Called, called, calls_in, answers_in}
 use Rattle.runs.specs.Laws.{CallLaw, CallsLaw}
 use Rattle.runs.specs.Run.{State, answer_to, left_by, answers, left}
 
@@ -39,12 +38,12 @@ module _ {N C : Type 0} (a : Arithmetic N C) (s : State C) (first : List Step) w
       let so_far : take (i + 1) (answers_in (set steps i step)) ≡ take i (answers_in steps) ++ (step.answer ∷ []) =
       ap (take (i + 1)) (map-set (λ step. step.answer) steps i step) ∙ take_more_set (answers_in steps) i step.answer within in
       let later : step.answer ∷ answers a u rest ≡ answers a t (drop i (calls_in first)) =
-      ap (λ (x : Answer). x ∷ answers a u rest) answer ∙ ap (λ (v : State C). answer_to a t c ∷ answers a v rest) after ∙ ap (answers a t) (sym next) in
+      ap (λ (x : Answered). x ∷ answers a u rest) answer ∙ ap (λ (v : State C). answer_to a t c ∷ answers a v rest) after ∙ ap (answers a t) (sym next) in
       record {
         calls = map-set_same (λ step. called step.call) steps i step d (ap called same) ∙ m.calls;
         answered =
-            ap (λ (xs : List Answer). xs ++ answers a u rest) so_far ∙ append_assoc (take i (answers_in steps)) (step.answer ∷ []) (answers a u rest)
-            ∙ ap (λ (xs : List Answer). take i (answers_in steps) ++ xs) later ∙ m.answered;
+            ap (λ (xs : List Answered). xs ++ answers a u rest) so_far ∙ append_assoc (take i (answers_in steps)) (step.answer ∷ []) (answers a u rest)
+            ∙ ap (λ (xs : List Answered). take i (answers_in steps) ++ xs) later ∙ m.answered;
         behind = ap (λ (v : State C). left a v rest) after ∙ ap (left a t) (sym next) ∙ m.behind;
         lawful = λ laws. m.lawful (subst (CallsLaw a t) (sym next) (law, subst (λ (v : State C). CallsLaw a v rest) after laws));
       }

@@ -1,5 +1,5 @@
 -- The promise of a run: what its calls put in force, what the cells then stand for, and what each posting is answered. Assumes nothing.
-use Rattle.std.specs.Prelude.{◌≡◌, ℕ, ◌+◌, ◌↔◌, List, [], ◌∷◌, ◌++◌, map, length, ℤ}
+use Rattle.std.specs.Prelude.{◌≡◌, ℕ, ◌+◌, ◌↔◌, List, [], ◌∷◌, ◌++◌, map, length, ℤ, Ok, Err}
 use Rattle.std.specs.List.{AllByRecursion}
 use Rattle.faults.specs.declared.NumberFault.TheVariants.{NotAdmitted}
 use Rattle.faults.specs.declared.SheetFault.TheVariants.{Number, NoSheet, Count, Overflow, Contradicted}
@@ -10,9 +10,8 @@ use Rattle.plans.specs.Solution.{Judgement, is_taken, is_implied, is_contradicte
 use Rattle.sheets.specs.Cells.{contents_in}
 use Rattle.sheets.specs.Law.{equation_of, FirstRefused}
 use Rattle.sheets.specs.Sheet.{Model, outcome_of}
-use Rattle.runs.specs.declared.call.Answer.{Answer}
-use Rattle.runs.specs.declared.call.Answer.TheVariants.{Done, Implied, Refused}
-use Rattle.runs.specs.Calls.{Called, posting, clearing, picking, showing}
+use Rattle.runs.specs.declared.call.Success.TheVariants.{Done, Implied}
+use Rattle.runs.specs.Calls.{Answered, Called, posting, clearing, picking, showing}
 use Rattle.runs.specs.Run.{State, left}
 
 -- at the opening no equation is in force
@@ -21,63 +20,63 @@ at_opening = []
 
 -- a posting answered 0 puts its equation in force, a clearing answered 0 ends this for all equations,
 -- and no other call, refused or not, changes which are in force
-abbrev pub after_call : ℕ → Called → Answer → List Equation → List Equation
-after_call n (posting ws) Done es = equation_of n ws ∷ es
-after_call n (posting ws) Implied es = es
-after_call n (posting ws) (Refused fault) es = es
-after_call n clearing Done es = []
-after_call n clearing Implied es = es
-after_call n clearing (Refused fault) es = es
+abbrev pub after_call : ℕ → Called → Answered → List Equation → List Equation
+after_call n (posting ws) (Ok Done) es = equation_of n ws ∷ es
+after_call n (posting ws) (Ok Implied) es = es
+after_call n (posting ws) (Err fault) es = es
+after_call n clearing (Ok Done) es = []
+after_call n clearing (Ok Implied) es = es
+after_call n clearing (Err fault) es = es
 after_call n (picking choice) r es = es
 after_call n showing r es = es
 
 -- so these are in force after calls with their answers, the first call first, where es were in force before them
-abbrev pub in_force_from : ℕ → List Equation → List (Called × Answer) → List Equation
+abbrev pub in_force_from : ℕ → List Equation → List (Called × Answered) → List Equation
 in_force_from n es [] = es
 in_force_from n es (call ∷ calls) = in_force_from n (after_call n call.0 call.1 es) calls
 
 -- and these after a list of calls from the opening on
-abbrev pub in_force : ℕ → List (Called × Answer) → List Equation
+abbrev pub in_force : ℕ → List (Called × Answered) → List Equation
 in_force n calls = in_force_from n at_opening calls
 
 -- the answer that says a judgement
-abbrev pub judged : Judgement → Answer
-judged is_taken = Done
-judged is_implied = Implied
-judged is_contradicted = Refused Contradicted
+abbrev pub judged : Judgement → Answered
+judged is_taken = Ok Done
+judged is_implied = Ok Implied
+judged is_contradicted = Err Contradicted
 
 -- a posting is not refused by lack of unknowns, count, word or overflow
-pub record GoesThrough (r : Answer) : Type 0 where
-  pub has_unknowns : ¬ (r ≡ Refused NoSheet)
-  pub right_count : ¬ (r ≡ Refused Count)
-  pub words_admitted : (i : ℕ) → ¬ (r ≡ Refused (Number (NotAdmitted i)))
-  pub no_overflow : ¬ (r ≡ Refused Overflow)
+pub record GoesThrough (r : Answered) : Type 0 where
+  pub has_unknowns : ¬ (r ≡ Err NoSheet)
+  pub right_count : ¬ (r ≡ Err Count)
+  pub words_admitted : (i : ℕ) → ¬ (r ≡ Err (Number (NotAdmitted i)))
+  pub no_overflow : ¬ (r ≡ Err Overflow)
 
 module _ {N C : Type 0} (a : Arithmetic N C) where
   -- the words ws, posted to the sheet m of n unknowns with the equations es in force, are rightly answered r
-  pub record RightlyAnswered (n : ℕ) (es : List Equation) (m : Model C) (ws : List ℤ) (r : Answer) : Type 0 where
+  pub record RightlyAnswered (n : ℕ) (es : List Equation) (m : Model C) (ws : List ℤ) (r : Answered) : Type 0 where
     -- refused for lack of unknowns exactly when the sheet has none
-    pub no_unknowns : (r ≡ Refused NoSheet) ↔ (n ≡ 0)
+    pub no_unknowns : (r ≡ Err NoSheet) ↔ (n ≡ 0)
     -- for their count exactly when it has, and the words are not n + 1
-    pub count : (r ≡ Refused Count) ↔ ((¬ (n ≡ 0)) × (¬ (length ws ≡ n + 1)))
+    pub count : (r ≡ Err Count) ↔ ((¬ (n ≡ 0)) × (¬ (length ws ≡ n + 1)))
     -- for word i exactly when they are, and that is the first that the kind does not admit
-    pub word : (i : ℕ) → (r ≡ Refused (Number (NotAdmitted i))) ↔ ((¬ (n ≡ 0)) × (length ws ≡ n + 1) × FirstRefused a ws i)
+    pub word : (i : ℕ) → (r ≡ Err (Number (NotAdmitted i))) ↔ ((¬ (n ≡ 0)) × (length ws ≡ n + 1) × FirstRefused a ws i)
     -- for overflow exactly when all are admitted, and a step of the posting gives a number that cannot be stored
-    pub overflows : (r ≡ Refused Overflow) ↔ ((¬ (n ≡ 0)) × (length ws ≡ n + 1) × AllByRecursion (Admitted a) ws × (outcome_of a m ws ≡ overflow))
+    pub overflows : (r ≡ Err Overflow) ↔ ((¬ (n ≡ 0)) × (length ws ≡ n + 1) × AllByRecursion (Admitted a) ws × (outcome_of a m ws ≡ overflow))
     -- any other answer says which of the plans that meet every equation in force meet the posted one too: all, some and not all, or none
     pub verdict : GoesThrough r → (j : Judgement) × (r ≡ judged j) × Verdict a.modulus n es (equation_of n ws) j
 
   -- the sheet before a call, the calls made before it being these
-  abbrev pub sheet_before : State C → List (Called × Answer) → Model C
+  abbrev pub sheet_before : State C → List (Called × Answered) → Model C
   sheet_before s calls = (left a s (map (λ call. call.0) calls)).sheet
 
   -- THE PROMISE, for the calls made from the state s on, where a sheet was opened, with the answers that they got, and the sheet m that they left
-  pub record Promise (s : State C) (calls : List (Called × Answer)) (m : Model C) : Type 0 where
+  pub record Promise (s : State C) (calls : List (Called × Answered)) (m : Model C) : Type 0 where
     -- the sheet keeps the unknowns that it was opened with
     pub unknowns : m.unknowns ≡ s.sheet.unknowns
     -- (a) the cells at the end: a plan meets every equation in force exactly when some choice makes it out of the fixed plan and the moves,
     -- and no two choices make the same plan; plans, and choices, that are the same in the kind number by number count as one
     pub general : Holds a m.unknowns (in_force m.unknowns calls) (contents_in a m.unknowns m.moves m.cells)
     -- (b) every posting, wherever it stands in the list, is rightly answered, by the equations in force before it
-    pub postings : (before behind : List (Called × Answer)) (ws : List ℤ) (r : Answer) → calls ≡ before ++ ((posting ws, r) ∷ behind) →
+    pub postings : (before behind : List (Called × Answered)) (ws : List ℤ) (r : Answered) → calls ≡ before ++ ((posting ws, r) ∷ behind) →
         RightlyAnswered m.unknowns (in_force m.unknowns before) (sheet_before s before) ws r

@@ -9,8 +9,7 @@ use Rattle.sheets.specs.Sheet.{Model, model_of, outline_of, opened, post_answer,
 use Rattle.sheets.specs.Showing.{show_answer, show_left}
 use Rattle.sheets.specs.declared.shape.Outline.{Outline}
 use Rattle.sheets.specs.declared.sheet.Sheet.{Sheet}
-use Rattle.runs.specs.declared.call.Answer.{Answer}
-use Rattle.runs.specs.Calls.{Called, posting, clearing, picking, showing, verdict_answer_lem, plain_answer_lem}
+use Rattle.runs.specs.Calls.{Answered, Called, posting, clearing, picking, showing, verdict_answer, plain_answer}
 
 -- what the calls of a run act on: the sheet, the words that a picked plan is written to, and the page
 pub record State (C : Type 0) : Type 0 where
@@ -35,11 +34,11 @@ with_page s page = record { sheet = s.sheet; plan = s.plan; page = page }
 
 module _ {N C : Type 0} (a : Arithmetic N C) where
   -- the answer to one call, and what the call leaves
-  abbrev pub answer_to : State C → Called → Answer
-  answer_to s (posting ws) = verdict_answer_lem (post_answer a s.sheet ws)
-  answer_to s clearing = plain_answer_lem (clear_answer s.sheet)
-  answer_to s (picking choice) = plain_answer_lem (pick_answer a s.sheet choice s.plan)
-  answer_to s showing = plain_answer_lem (show_answer s.sheet s.page)
+  abbrev pub answer_to : State C → Called → Answered
+  answer_to s (posting ws) = verdict_answer (post_answer a s.sheet ws)
+  answer_to s clearing = plain_answer (clear_answer s.sheet)
+  answer_to s (picking choice) = plain_answer (pick_answer a s.sheet choice s.plan)
+  answer_to s showing = plain_answer (show_answer s.sheet s.page)
 
   abbrev pub left_by : State C → Called → State C
   left_by s (posting ws) = with_sheet s (post_left a s.sheet ws)
@@ -48,7 +47,7 @@ module _ {N C : Type 0} (a : Arithmetic N C) where
   left_by s showing = with_page s (show_left a s.sheet s.page)
 
   -- the answers to calls made one after the other, and what they leave
-  abbrev pub answers : State C → List Called → List Answer
+  abbrev pub answers : State C → List Called → List Answered
   answers s [] = []
   answers s (c ∷ cs) = answer_to s c ∷ answers (left_by s c) cs
 

@@ -1,6 +1,6 @@
 // The calls of a run, each with the answer that it gets.
 ghost use Rattle.std.specs.Prelude.{◌≡◌};
-ghost use Rattle.runs.specs.Calls.{answer_number, verdict_answer_lem, plain_answer_lem};
+ghost use Rattle.runs.specs.Calls.{answer_number, success_of};
 
 use faults::SheetFault;
 use sheets::posting::Verdict;
@@ -16,50 +16,42 @@ pub enum Call<'a> {
     Show,
 }
 
-// What came of a call.
-#[derive(Clone, Copy)]
-pub enum Answer {
+// What came of a call that is not refused.
+#[derive(Clone, Copy, PartialEq, Eq, Debug)]
+pub enum Success {
     // A posting is taken; a clearing, a picking or a showing is done.
     Done,
     // Every plan of the sheet meets the posted equation already.
     Implied,
-    Refused(SheetFault),
 }
 
-impl Answer {
-    pub fn number(self) -> u8
-        ensures { result ≡ answer_number self }
-    {
-        match self {
-            Answer::Done => 0,
-            Answer::Implied => 1,
-            Answer::Refused(fault) => fault.number(),
+impl From<Verdict> for Success {
+    ghost from_gives = { λ verdict success. success ≡ success_of verdict };
+
+    fn from(verdict: Verdict) -> Success {
+        match verdict {
+            Verdict::Taken => Success::Done,
+            Verdict::Implied => Success::Implied,
         }
     }
 }
 
-// The answer of a posting.
-pub(crate) fn verdict_answer(outcome: Result<Verdict, SheetFault>) -> Answer
-    ensures { result ≡ verdict_answer_lem outcome }
-{
-    match outcome {
-        Ok(Verdict::Taken) => Answer::Done,
-        Ok(Verdict::Implied) => Answer::Implied,
-        Err(fault) => Answer::Refused(fault),
-    }
-}
+// What came of a call.
+pub type Answer = Result<Success, SheetFault>;
 
-// The answer of any other call.
-pub(crate) fn plain_answer(outcome: Result<(), SheetFault>) -> Answer
-    ensures { result ≡ plain_answer_lem outcome }
+// An answer as one number, as lines carry it: the fault's where the call is refused.
+pub fn number_of(answer: Answer) -> u8
+    ensures { result ≡ answer_number answer }
 {
-    match outcome {
-        Ok(()) => Answer::Done,
-        Err(fault) => Answer::Refused(fault),
+    match answer {
+        Ok(Success::Done) => 0,
+        Ok(Success::Implied) => 1,
+        Err(fault) => fault.number(),
     }
 }
 
 // A call, and its answer; whatever stands there before the run makes the call is written over.
+// Kept as an answer and no Option: after a run each step has one, which readers would have to unwrap.
 #[derive(Drop)]
 pub struct Step<'a> {
     pub call: Call<'a>,

@@ -7,13 +7,14 @@ ghost use Rattle.runs.specs.Run.{state, state_of, answer_to, left_by, answers as
 ghost use Rattle.runs.specs.Laws.{CallLaw, CallsLaw};
 ghost use Rattle.runs.specs.Promise.{Promise};
 
-use crate::call::{Answer, Call, Step, plain_answer, verdict_answer};
+use crate::call::{Answer, Call, Step, Success};
 use kinds::kind::Kind;
 use lines::page::Page;
 use sheets::shape::Outline;
 use sheets::sheet::Sheet;
 
 // Makes one call.
+// Kept with sheet, plan and page apart: where a struct of them ends, no proof knows what the lent words then hold.
 fn make_call<K: Kind>(
     sheet: &mut Sheet<K>,
     call: &Call,
@@ -27,10 +28,10 @@ fn make_call<K: Kind>(
     ensures law { CallLaw K.Kind.arith (state sheet.old plan.old page.old) (called call.now) }
 {
     match call {
-        Call::Post(words) => verdict_answer(sheet.post(words)),
-        Call::Clear => plain_answer(sheet.clear()),
-        Call::Pick(choice) => plain_answer(sheet.pick(choice, plan)),
-        Call::Show => plain_answer(sheet.show(page)),
+        Call::Post(words) => sheet.post(words).map(Success::from),
+        Call::Clear => sheet.clear().map(|()| Success::Done),
+        Call::Pick(choice) => sheet.pick(choice, plan).map(|()| Success::Done),
+        Call::Show => sheet.show(page).map(|()| Success::Done),
     }
 }
 
@@ -43,11 +44,11 @@ fn make_step<K: Kind>(sheet: &mut Sheet<K>, step: &mut Step, plan: &mut [i32], p
     ensures left { state sheet.new plan.new page.new ≡ left_by K.Kind.arith (state sheet.old plan.old page.old) (called step.old.call) }
     ensures law { CallLaw K.Kind.arith (state sheet.old plan.old page.old) (called step.old.call) }
 {
-    let answer = make_call(sheet, &step.call, plan, page);
-    step.answer = answer;
+    step.answer = make_call(sheet, &step.call, plan, page);
 }
 
 // Makes the calls of the steps, one after the other.
+// Kept by index: a loop over the steps themselves, which hold borrowed words, gets no proof.
 fn make_steps<K: Kind>(sheet: &mut Sheet<K>, steps: &mut [Step], plan: &mut [i32], page: &mut Page)
     ensures sheet_held { sheet.new.cells.ghost_name ≡ sheet.old.cells.ghost_name }
     ensures page_held { page.new.bytes.ghost_name ≡ page.old.bytes.ghost_name }
@@ -61,28 +62,8 @@ fn make_steps<K: Kind>(sheet: &mut Sheet<K>, steps: &mut [Step], plan: &mut [i32
     }
 }
 
-// Opens a sheet over the cells and makes the calls of the steps on it. `run` states of this what it means.
-fn open_and_run<K: Kind>(
-    cells: &mut [K::Cell],
-    unknowns: i32,
-    list: i32,
-    steps: &mut [Step],
-    plan: &mut [i32],
-    page: &mut Page,
-) -> Outline
-    ensures page_held { page.new.bytes.ghost_name ≡ page.old.bytes.ghost_name }
-    ensures calls { calls_in steps.new ≡ calls_in steps.old }
-    ensures answers { answers_in steps.new ≡ answers_to K.Kind.arith (begun K.Kind.arith unknowns list cells.old plan.old (page_model page.old)) (calls_in steps.old) }
-    ensures left { state_of cells.new result plan.new page.new ≡ left_behind K.Kind.arith (begun K.Kind.arith unknowns list cells.old plan.old (page_model page.old)) (calls_in steps.old) }
-    ensures law { CallsLaw K.Kind.arith (begun K.Kind.arith unknowns list cells.old plan.old (page_model page.old)) (calls_in steps.old) }
-{
-    let mut sheet = Sheet::<K>::open(cells, unknowns, list);
-    make_steps(&mut sheet, steps, plan, page);
-    sheet.outline()
-}
-
 // Opens a sheet over the cells and makes the calls of the steps on it, one after the other; each step gets its answer.
-// The cells then hold the sheet, and its outline is answered.
+// The cells then hold the sheet, and its outline is answered. Kept with its parameters: it landed so.
 pub fn run<K: Kind>(
     cells: &mut [K::Cell],
     unknowns: i32,
@@ -97,5 +78,7 @@ pub fn run<K: Kind>(
     ensures left { state_of cells.new result plan.new page.new ≡ left_behind K.Kind.arith (begun K.Kind.arith unknowns list cells.old plan.old (page_model page.old)) (calls_in steps.old) }
     ensures promise { Promise K.Kind.arith (begun K.Kind.arith unknowns list cells.old plan.old (page_model page.old)) (pairs_in steps.new) (model_of cells.new result) }
 {
-    open_and_run::<K>(cells, unknowns, list, steps, plan, page)
+    let mut sheet = Sheet::<K>::open(cells, unknowns, list);
+    make_steps(&mut sheet, steps, plan, page);
+    sheet.outline()
 }

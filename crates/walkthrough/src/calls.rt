@@ -5,7 +5,7 @@ use faults::SheetFault;
 use runs::call::{Answer, Call, Step};
 
 // What stands in a step before its call is made.
-const UNANSWERED: Answer = Answer::Refused(SheetFault::NoSheet);
+const UNANSWERED: Answer = Err(SheetFault::NoSheet);
 
 fn step(call: Call) -> Step
     ensures { result.call ≡ call.entry }

@@ -14,66 +14,66 @@ mod rows;
 mod walk;
 
 const WHOLES: Opening = Opening {
-    kind: "whole numbers",
     unknowns: 3,
     list: 7,
 };
 
 const WEEKDAYS: Opening = Opening {
-    kind: "weekday numbers",
     unknowns: 3,
     list: 8,
 };
 
 // No sheet has so many unknowns.
 const TOO_MANY: Opening = Opening {
-    kind: "whole numbers",
     unknowns: 25,
     list: 7,
 };
 
-// As many cells as a sheet of 3 unknowns needs.
+// As many cells as a sheet of 3 unknowns needs: they are fixed arrays, with no heap.
 const NEEDED: usize = 28;
-
-fn wholes<W: Write>(out: &mut W) -> io::Result<()> {
-    let mut cells = [WholeCell { value: 0 }; NEEDED];
-    let mut steps = calls::wholes();
-    walk::<Whole, W>(out, WHOLES, &mut cells, &mut steps, &mut [0; 3])
-}
-
-fn weekdays<W: Write>(out: &mut W) -> io::Result<()> {
-    let mut cells = [WeekdayCell { value: 0 }; NEEDED];
-    let mut steps = calls::weekdays();
-    walk::<Weekday, W>(out, WEEKDAYS, &mut cells, &mut steps, &mut [0; 3])
-}
-
-// The words lent for a plan are too few.
-fn few_words<W: Write>(out: &mut W) -> io::Result<()> {
-    let mut cells = [WeekdayCell { value: 0 }; NEEDED];
-    let mut steps = calls::few();
-    walk::<Weekday, W>(out, WEEKDAYS, &mut cells, &mut steps, &mut [0; 2])
-}
-
-// The sheet cannot be opened: its unknowns are too many.
-fn many_unknowns<W: Write>(out: &mut W) -> io::Result<()> {
-    let mut cells = [WholeCell { value: 0 }; NEEDED];
-    let mut steps = calls::few();
-    walk::<Whole, W>(out, TOO_MANY, &mut cells, &mut steps, &mut [0; 3])
-}
-
-// The sheet cannot be opened: a cell is lacking.
-fn few_cells<W: Write>(out: &mut W) -> io::Result<()> {
-    let mut cells = [WeekdayCell { value: 0 }; NEEDED - 1];
-    let mut steps = calls::few();
-    walk::<Weekday, W>(out, WEEKDAYS, &mut cells, &mut steps, &mut [0; 3])
-}
 
 fn main(rt: HostRuntime) -> io::Result<()> {
     let mut out = BufWriter::new(rt.alloc(), rt.stdout())?;
-    wholes(&mut out)?;
-    weekdays(&mut out)?;
-    few_words(&mut out)?;
-    many_unknowns(&mut out)?;
-    few_cells(&mut out)?;
+    let mut wholes = [WholeCell { value: 0 }; NEEDED];
+    let mut weekdays = [WeekdayCell { value: 0 }; NEEDED];
+    let mut plan = [0; 3];
+    walk::<Whole, _>(
+        &mut out,
+        WHOLES,
+        &mut wholes,
+        &mut calls::wholes(),
+        &mut plan,
+    )?;
+    walk::<Weekday, _>(
+        &mut out,
+        WEEKDAYS,
+        &mut weekdays,
+        &mut calls::weekdays(),
+        &mut plan,
+    )?;
+    // The words lent for a plan are too few.
+    walk::<Weekday, _>(
+        &mut out,
+        WEEKDAYS,
+        &mut weekdays,
+        &mut calls::few(),
+        &mut plan[..2],
+    )?;
+    // The sheet cannot be opened: its unknowns are too many.
+    walk::<Whole, _>(
+        &mut out,
+        TOO_MANY,
+        &mut wholes,
+        &mut calls::few(),
+        &mut plan,
+    )?;
+    // The sheet cannot be opened: a cell is lacking.
+    walk::<Weekday, _>(
+        &mut out,
+        WEEKDAYS,
+        &mut weekdays[1..],
+        &mut calls::few(),
+        &mut plan,
+    )?;
     out.flush()
 }

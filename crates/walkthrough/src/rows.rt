@@ -7,36 +7,22 @@ use sheets::shape::Outline;
 use std::io;
 use std::io::Write;
 
-// The number in a cell; a cell that fails its kind's check counts as zero.
+// The number in a cell; a cell that fails its kind's check counts as zero. `sheets` has it for its own use only.
 fn entry<K: Kind>(cell: K::Cell) -> i32
     ensures { result ≡ K.Kind.arith.write (number K.Kind.arith cell) }
 {
-    match K::from_cell(cell) {
-        Some(number) => number.write(),
-        None => K::zero().write(),
-    }
+    K::from_cell(cell).unwrap_or(K::zero()).write()
 }
 
-// The numbers in the cells of one plan or move.
+// The numbers of one plan or move. Kept beside decimal's Row, which prints numbers in memory: these stand in cells.
 fn row<K: Kind, W: Write>(out: &mut W, cells: &[K::Cell]) -> io::Result<()> {
     write!(out, "(")?;
-    for i in 0..cells.len() {
-        if i > 0 {
-            write!(out, ", ")?;
-        }
-        let number = entry::<K>(cells[i]);
-        write!(out, "{number}")?;
+    for (i, cell) in cells.iter().enumerate() {
+        let before = if i > 0 { ", " } else { "" };
+        let number = entry::<K>(*cell);
+        write!(out, "{before}{number}")?;
     }
     write!(out, ")")
-}
-
-// What stands before row i.
-fn before(i: usize) -> &'static str {
-    match i {
-        0 => "fixed plan ",
-        1 => "; moves ",
-        _ => ", ",
-    }
 }
 
 // The sheet that lies in the cells.
@@ -49,16 +35,22 @@ pub fn sheet<K: Kind, W: Write>(
     if unknowns == 0 {
         return writeln!(out, "    sheet: no unknowns");
     }
-    let moves = outline.moves();
-    let rows = moves.saturating_add(1);
-    write!(out, "    sheet: ")?;
-    for (i, cells) in cells.chunks_exact(unknowns).take(rows).enumerate() {
-        let before = before(i);
-        write!(out, "{before}")?;
-        row::<K, W>(out, cells)?;
+    let (plan, moves) = cells.split_at(unknowns.min(cells.len()));
+    write!(out, "    sheet: fixed plan ")?;
+    row::<K, W>(out, plan)?;
+    if outline.moves() == 0 {
+        return writeln!(out, "; no moves");
     }
-    if moves == 0 {
-        write!(out, "; no moves")?;
+    write!(out, "; moves ")?;
+    for (i, cells) in moves
+        .chunks_exact(unknowns)
+        .take(outline.moves())
+        .enumerate()
+    {
+        if i > 0 {
+            write!(out, ", ")?;
+        }
+        row::<K, W>(out, cells)?;
     }
     writeln!(out, "")
 }

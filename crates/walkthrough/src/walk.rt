@@ -1,6 +1,8 @@
 // A run, and what is written of it.
 use crate::{report, rows};
 use kinds::kind::Kind;
+use kinds::weekday::Weekday;
+use kinds::whole::Whole;
 use lines::page::Page;
 use runs::call::Step;
 use runs::run::run;
@@ -10,17 +12,29 @@ use std::io::Write;
 // How many bytes the page has: enough to show 3 rows of 3 numbers, and not 4.
 const PAGE: usize = 100;
 
-// The kind of a run's numbers, and what its sheet is opened with.
+// A kind of number that has a name.
+pub trait Named: Kind {
+    const NAME: &'static str;
+}
+
+impl Named for Whole {
+    const NAME: &'static str = "whole numbers";
+}
+
+impl Named for Weekday {
+    const NAME: &'static str = "weekday numbers";
+}
+
+// What a sheet is opened with.
 #[derive(Clone, Copy)]
 pub struct Opening {
-    pub kind: &'static str,
     pub unknowns: i32,
     pub list: i32,
 }
 
 // Makes the calls of the steps on a sheet from its opening on, and writes each with its answer, the sheet that is left,
-// and the plan that was picked last.
-pub fn walk<K: Kind, W: Write>(
+// and the plan that was picked last. What a run is lent is kept apart, as in a run; the page's bytes are fixed memory.
+pub fn walk<K: Named, W: Write>(
     out: &mut W,
     opening: Opening,
     cells: &mut [K::Cell],
@@ -29,9 +43,8 @@ pub fn walk<K: Kind, W: Write>(
 ) -> io::Result<()> {
     let mut bytes = [0u8; PAGE];
     let mut page = Page::new(&mut bytes);
-    let unknowns = opening.unknowns;
-    let list = opening.list;
-    let kind = opening.kind;
+    let Opening { unknowns, list } = opening;
+    let kind = K::NAME;
     let cell_count = cells.len();
     let word_count = plan.len();
     writeln!(
