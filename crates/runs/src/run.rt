@@ -13,7 +13,7 @@ use lines::page::Page;
 use sheets::shape::Outline;
 use sheets::sheet::Sheet;
 
-// Makes one call.
+// Makes one call: a match, since a list of calls is what the caller hands over.
 // Kept with sheet, plan and page apart: where a struct of them ends, no proof knows what the lent words then hold.
 fn make_call<K: Kind>(
     sheet: &mut Sheet<K>,

@@ -34,6 +34,7 @@ fn any_picked(steps: &[Step]) -> bool {
     ))
 }
 
+// What was asked, in words: no `Display` of a call, which is another crate's type.
 fn call<W: Write>(out: &mut W, call: &Call) -> io::Result<()> {
     match call {
         Call::Post(words) => {
@@ -49,7 +50,7 @@ fn call<W: Write>(out: &mut W, call: &Call) -> io::Result<()> {
     }
 }
 
-// The answer in words, and its number.
+// The answer in words, and its number: the word depends on the call too, so that no answer could print itself.
 fn answer<W: Write>(out: &mut W, step: &Step) -> io::Result<()> {
     let number = number_of(step.answer);
     match step.answer {
@@ -62,6 +63,7 @@ fn answer<W: Write>(out: &mut W, step: &Step) -> io::Result<()> {
     }
 }
 
+// The word for a call that did what it was to do.
 fn done(call: &Call) -> &'static str {
     match call {
         Call::Post(_) => "taken",
