@@ -1,6 +1,6 @@
 -- The first element that passes a test, over a loop that counts up.
-use Rattle.std.proofs.Common.{◌≡◌, ℕ, ◌+◌, ◌<◌, ◌≤◌, Bool, true, false, cond, List, [], ◌∷◌, length, get_or, drop, Some, None, refl, ◌∙◌, arith}
-use Rattle.std.proofs.lemmas.List.{at_drop_more, at_drop_all}
+use Rattle.std.proofs.Common.{◌≡◌, ℕ, ◌+◌, ◌<◌, Bool, true, false, cond, List, [], ◌∷◌, length, get_or, drop, Some, None, refl, ◌∙◌, arith}
+use Rattle.std.proofs.lemmas.List.{at_drop_more}
 use Rattle.std.proofs.lemmas.Bool.{cond-true, cond-false}
 use Rattle.std.specs.List.{AllByRecursion, position_from}
 
@@ -10,9 +10,6 @@ module _ {A : Type 0} (test : A → Bool) (xs : List A) (i : ℕ) where
 
   pub find_on : (d : A) → i < length xs → test (get_or xs i d) ≡ false → position_from test i (drop i xs) ≡ position_from test (i + 1) (drop (i + 1) xs)
   find_on d h e = at_drop_more (position_from test i) xs i d h ∙ cond-false (test (get_or xs i d)) (Some i) (position_from test (i + 1) (drop (i + 1) xs)) e
-
-  pub find_end : length xs ≤ i → position_from test i (drop i xs) ≡ None
-  find_end h = at_drop_all (position_from test i) xs i h
 
 module _ {A : Type 0} (test : A → Bool) where
   pub find_below : (i : ℕ) (xs : List A) (k : ℕ) → position_from test i xs ≡ Some k → k < i + length xs

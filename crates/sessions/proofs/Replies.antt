@@ -11,7 +11,7 @@ use Rattle.kinds.specs.Kind.{Arithmetic}
 use Rattle.kinds.specs.Weekday.{weekdays}
 use Rattle.kinds.specs.Whole.{wholes}
 use Rattle.lines.specs.Line.{frame_of, numbers, refusal}
-use Rattle.lines.specs.Page.{Model as PageModel, with_text, HasRoom}
+use Rattle.lines.specs.Page.{Model as PageModel, with_text}
 use Rattle.sheets.specs.Cells.{contents_in}
 use Rattle.sheets.specs.Picking.{pick_refusal_lem, plan_in, pick_unless, words_unless}
 use Rattle.sheets.specs.Sheet.{Model, stands}

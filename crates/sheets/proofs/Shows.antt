@@ -7,9 +7,8 @@ use Rattle.kinds.specs.Kind.{Arithmetic}
 use Rattle.lines.specs.Line.{line_text}
 use Rattle.lines.specs.Page.{Model, between, with_text, HasRoom}
 use Rattle.lines.proofs.Filling.{length_joined}
-use Rattle.sheets.specs.Cells.{needed, part, numbers, move_at, moves_at, contents_in}
-use Rattle.sheets.specs.Sheet.{Model as SheetModel}
-use Rattle.sheets.specs.Showing.{show_length, row_text, shown_text}
+use Rattle.sheets.specs.Cells.{part, numbers, move_at, moves_at, contents_in}
+use Rattle.sheets.specs.Showing.{row_text, shown_text}
 use Rattle.sheets.proofs.Laying.{over_append}
 use Rattle.sheets.proofs.Numbers.{length_numbers_part}
 use Rattle.sheets.proofs.Places.{column_in}
@@ -31,11 +30,6 @@ text_behind m s t h =
 
 pub text_keeps : (m : Model) (s : List ℕ) → m.end + length s ≤ length m.bytes → length (with_text m s).bytes ≡ length m.bytes
 text_keeps m s h = length_over m.bytes s m.end h
-
--- a sheet that can be shown has its cells, and the page can take all lines
-pub record Showable {C : Type 0} (m : SheetModel C) (p : Model) : Type 0 where
-  pub cells : needed m.unknowns ≤ length m.cells
-  pub page : HasRoom p (show_length m)
 
 module _ {N C : Type 0} (a : Arithmetic N C) where
   -- a line has 5 + 8 × n bytes with its line feed

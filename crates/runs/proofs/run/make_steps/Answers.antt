@@ -1,6 +1,6 @@
-use Rattle.std.proofs.Common.{refl, ◌∙◌}
+use Rattle.std.proofs.Common.{◌∙◌}
 use Rattle.runs.specs.Run.{state}
-use Rattle.runs.proofs.Steps.{made_more, made_all}
+use Rattle.runs.proofs.Steps.{made_more}
 use Rattle.runs.proofs.run.make_steps.Goals as goal
 
 pub loop-i-preserved : goal.loop-i-preserved
