@@ -52,6 +52,7 @@ pub record Sample : Type 0 where
 abbrev pub pair : ℤ → ℤ → List ℤ
 pair x y = x ∷ (y ∷ [])
 
+-- the last of whole numbers is contradicted by its top, though an entry below could not be stored
 abbrev pub table : List Sample
 table =
     record { came = sample wholes (row (pos 3) (pos 5) (pos 1)) []; answer = 0; lists = pair (negsuc 2) (pos 2) ∷ (pair (negsuc 4) (pos 3) ∷ []) }
@@ -64,8 +65,12 @@ table =
     ∷ (record { came = sample wholes (row (pos 1) (negsuc 2147483646) (pos 0)) []; answer = 0; lists = pair (pos 0) (pos 0) ∷ (pair (negsuc 2147483646) (negsuc 0) ∷ []) }
     ∷ (record { came = sample wholes (row (pos 1) (negsuc 2147483646) (pos 0)) (row (pos 1) (pos 1) (pos 0) ∷ []); answer = 15; lists = pair (pos 0) (pos 0) ∷ (pair (negsuc 2147483646) (negsuc 0) ∷ []) }
     ∷ (record { came = sample wholes (row (pos 1) (negsuc 1999999999) (pos 0)) (row (pos 3) (pos 0) (pos 0) ∷ []); answer = 15; lists = pair (pos 0) (pos 0) ∷ (pair (negsuc 1999999999) (negsuc 0) ∷ []) }
+    ∷ (record { came = sample wholes (row (pos 7) (pos 2) (pos 2147483646)) (row (pos 5) (pos 1) (pos 2) ∷ []); answer = 16; lists = pair (pos 306783378) (pos 0) ∷ (pair (negsuc 1) (pos 7) ∷ []) }
     ∷ (record { came = sample weekdays (row (pos 3) (pos 5) (pos 1)) []; answer = 0; lists = pair (pos 5) (pos 0) ∷ (pair (pos 5) (pos 4) ∷ []) }
-    ∷ []))))))))))
+    ∷ (record { came = sample weekdays (row (pos 3) (pos 5) (pos 1)) (row (pos 6) (pos 3) (pos 2) ∷ []); answer = 1; lists = pair (pos 5) (pos 0) ∷ (pair (pos 5) (pos 4) ∷ []) }
+    ∷ (record { came = sample weekdays (row (pos 3) (pos 5) (pos 1)) (row (pos 3) (pos 5) (pos 2) ∷ []); answer = 16; lists = pair (pos 5) (pos 0) ∷ (pair (pos 5) (pos 4) ∷ []) }
+    ∷ (record { came = sample weekdays (row (pos 7) (pos 0) (pos 0)) []; answer = 14; lists = pair (pos 0) (pos 0) ∷ (pair (pos 1) (pos 0) ∷ (pair (pos 0) (pos 1) ∷ [])) }
+    ∷ []))))))))))))))
 
 -- every sample comes out as it should
 abbrev pub Samples : Type 0
