@@ -1,17 +1,18 @@
 -- In a posting nothing but an add-product gives none: there is always a turn left, a pivot and a quotient.
 use Rattle.std.proofs.Common.{◌≡◌, ℕ, zero, suc, ◌<◌, Bool, true, false, cond, eqb, ◌⊎◌, List, [], ◌∷◌, length, set, ℤ, pos, ◌*ℤ◌, Some, None, Option, sym, refl, ap, ◌∙◌, subst, inl, inr, ⊎_elim, arith}
 use Rattle.std.proofs.lemmas.List.{length-set, get_or-set_other}
-use Rattle.std.proofs.lemmas.Bool.{eqb-false, cases_eq}
+use Rattle.std.proofs.lemmas.Bool.{eqb-true, eqb-false, cases_eq}
 use Rattle.kinds.specs.Kind.{Arithmetic, Laws, Same}
 use Rattle.kinds.specs.Ring.{ring}
 use Rattle.kinds.specs.Sames.{same_eq, same_refl, same_sym, same_trans, same_add, same_scale, same_mul}
 use Rattle.plans.specs.Sheet.{Contents}
 use Rattle.plans.specs.Posting.{then, Column, Work, Outcome, implied, contradicted, overflow, Turn, stop, again, fail, running, adds, adds_column, blank, topped, column_B, normalised, at, size_at, pivot_of, runner_up_of, reduced, round, turned, turn_by, turn_at, turn, on, rounds, total_size, closed, settled, finish_by, finish, worked, prepared, posted}
-use Rattle.plans.specs.Overflows.{LacksSum, LacksTops, Lacks, LacksColumn, LacksUnits, LacksReduced, Comes, here, onward, LacksRound, LacksEnd, Lacking, in_tops, in_B, in_units, in_rounds, OnlyProducts}
+use Rattle.plans.specs.Overflows.{LacksSum, LacksTops, Lacks, LacksColumn, LacksUnits, LacksReduced, LacksFinish, Comes, here, onward, LacksRound, LacksEnd, Lacking, in_tops, in_B, in_units, in_rounds, OnlyProducts}
 use Rattle.plans.proofs.Bests.{Best, best, best_some}
 use Rattle.plans.proofs.Falling.{then_some, column_top, reduced_less, went, turn_falls}
 use Rattle.plans.proofs.Stored.{some_is}
 use Rattle.plans.proofs.Rightness.{at_stop}
+use Rattle.plans.proofs.Overflowing.{lacks_rounds, lacking_overflows}
 
 -- something is not nothing
 some_none : {X : Type 0} {x : X} {P : Type 0} → ◌≡◌ {A = Option X} (Some x) None → P
@@ -152,7 +153,8 @@ module _ {N C : Type 0} (a : Arithmetic N C) (laws : Laws a) where
       by None q t = absurd cc
       by (Some r) q t =
           let n = not_stop (eqb (size_at a cs r) 0) l (turned a (round a w l r)) t in
-          record { work = w; l = l; r = r; comes = here w; pivot = p.1; runner_up = q; lacks = both r (eqb-false (size_at a cs r) 0 n.0) (turned_fail (round a w l r) n.1) }
+          let k = eqb-false (size_at a cs r) 0 n.0 in
+          record { work = w; l = l; r = r; comes = here w; pivot = p.1; runner_up = q; goes_on = k; lacks = both r k (turned_fail (round a w l r) n.1) }
 
   never_out : (n : ℕ) (w : Work N) → ¬ (total_size a w.columns ≡ 0) → total_size a w.columns < n → rounds a n w ≡ None → LacksRound a w
   never_out zero w h k e = absurd (omega arith)
@@ -164,7 +166,7 @@ module _ {N C : Type 0} (a : Arithmetic N C) (laws : Laws a) where
       by (again v) t e rest =
           let f = turn_falls a laws w v t in
           let g = rest v (stays w v t) (omega arith) e in
-          record { work = g.work; l = g.l; r = g.r; comes = onward w v g.work t g.comes; pivot = g.pivot; runner_up = g.runner_up; lacks = g.lacks }
+          record { work = g.work; l = g.l; r = g.r; comes = onward w v g.work t g.comes; pivot = g.pivot; runner_up = g.runner_up; goes_on = g.goes_on; lacks = g.lacks }
 
   -- where the rounds end: at a turn that stops, with a top whose size is not 0
   record Ended (w : Work N) (l : ℕ) (v : Work N) : Type 0 where
@@ -191,7 +193,7 @@ module _ {N C : Type 0} (a : Arithmetic N C) (laws : Laws a) where
       let o = at_stop a w l (pivot_of a w.columns) refl e in
       h (total_zero a w.columns (λ j i. ⊎_elim (λ x. ap (size_at a w.columns) x ∙ z) (λ x. o.others j i x) (cases_eq j l)))
 
-  finish_lacks : (w : Work N) (l : ℕ) → ¬ (size_at a w.columns l ≡ 0) → finish_by a w l (a.quotient w.B.top (at a w.columns l).top) ≡ overflow → LacksReduced a w.B (at a w.columns l)
+  finish_lacks : (w : Work N) (l : ℕ) → ¬ (size_at a w.columns l ≡ 0) → finish_by a w l (a.quotient w.B.top (at a w.columns l).top) ≡ overflow → LacksFinish a w.B (at a w.columns l)
   finish_lacks w l h e = (q, k.1, by_top (a.add_product w.B.top (a.negative q) d.top) refl (ap (finish_by a w l) (sym k.1) ∙ e))
     where
       d : Column N
@@ -207,13 +209,14 @@ module _ {N C : Type 0} (a : Arithmetic N C) (laws : Laws a) where
       by_low None u e = adds_lacks a w.B.low (a.negative q) d.low u
       by_low (Some x) u e = absurd cc
 
-      by_test : (b : Bool) → cond b (closed a w.columns l (adds a w.B.low (a.negative q) d.low)) contradicted ≡ overflow → Lacks a w.B.low (a.negative q) d.low
-      by_test true e = by_low (adds a w.B.low (a.negative q) d.low) refl e
+      by_test : (b : Bool) → cond b (closed a w.columns l (adds a w.B.low (a.negative q) d.low)) contradicted ≡ overflow → (b ≡ true) × Lacks a w.B.low (a.negative q) d.low
+      by_test true e = (refl, by_low (adds a w.B.low (a.negative q) d.low) refl e)
       by_test false e = absurd cc
 
-      by_top : (o : Option N) → a.add_product w.B.top (a.negative q) d.top ≡ o → settled a w l q o ≡ overflow → LacksColumn a w.B (a.negative q) d
-      by_top None t e = inl t
-      by_top (Some t) u e = inr (by_test (eqb (a.size t) 0) e)
+      by_top : (o : Option N) → a.add_product w.B.top (a.negative q) d.top ≡ o → settled a w l q o ≡ overflow →
+          (o ≡ None) ⊎ ((t : N) × (o ≡ Some t) × (a.size t ≡ 0) × Lacks a w.B.low (a.negative q) d.low)
+      by_top None t e = inl refl
+      by_top (Some t) u e = let b = by_test (eqb (a.size t) 0) e in inr (t, refl, eqb-true (a.size t) 0 b.0, b.1)
 
   rounds_lack : (w : Work N) → ¬ (total_size a w.columns ≡ 0) → (o : Option (ℕ × Work N)) → rounds a (suc (total_size a w.columns)) w ≡ o → finish a o ≡ overflow → LacksRound a w ⊎ LacksEnd a w
   rounds_lack w h None r e = inl (never_out (suc (total_size a w.columns)) w h (omega arith) r)
@@ -226,9 +229,9 @@ module _ {N C : Type 0} (a : Arithmetic N C) (laws : Laws a) where
     where
       worked_lacks : (ds : List (Column N)) (b : Column N) → topped a cs s.moves ≡ Some ds → column_B a cs right s.fixed ≡ Some b → ¬ (total_size a ds ≡ 0) →
           (o : Option (List (Column N))) → normalised a ds ≡ o → worked a b o ≡ overflow → Lacking a s cs right
-      worked_lacks ds b t u h None n e = in_units ds t (units_lack a ds n)
+      worked_lacks ds b t u h None n e = in_units ds b t u h (units_lack a ds n)
       worked_lacks ds b t u h (Some fs) n e =
-          in_rounds ds fs b t u n (rounds_lack (record { B = b; columns = fs }) (λ z. h (normal_zero ds fs n z)) (rounds a (suc (total_size a fs)) (record { B = b; columns = fs })) refl e)
+          in_rounds ds fs b t u h n (rounds_lack (record { B = b; columns = fs }) (λ z. h (normal_zero ds fs n z)) (rounds a (suc (total_size a fs)) (record { B = b; columns = fs })) refl e)
 
       flat_lacks : (b c : Bool) (rest : Outcome N) → cond b (cond c implied contradicted) rest ≡ overflow → (b ≡ false) × (rest ≡ overflow)
       flat_lacks true true rest e = absurd cc
@@ -249,6 +252,6 @@ module _ {N C : Type 0} (a : Arithmetic N C) (laws : Laws a) where
     pivot = pivot;
     stays = stays;
     normal = λ cs ds e h z. h (normal_zero cs ds e z);
-    never_out = never_out;
-    overflows = overflows;
+    never_out = λ n w h k. (never_out n w h k, lacks_rounds a laws n w k);
+    overflows = λ s cs right. (overflows s cs right, lacking_overflows a laws s cs right);
   }

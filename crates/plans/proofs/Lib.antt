@@ -6,6 +6,7 @@ pub mod Changes
 pub mod Verdicts
 pub mod Stored
 pub mod Rightness
+pub mod Overflowing
 pub mod Lacking
 pub mod NewSheet
 pub mod Sizes

@@ -1,5 +1,5 @@
--- Where a posting overflows: which of its add-products gives none, and that nothing else can. Assumes nothing.
-use Rattle.std.specs.Prelude.{◌≡◌, ℕ, ◌<◌, ◌⊎◌, List, [], ◌∷◌, Some, None}
+-- Where a posting overflows: exactly where one of its add-products gives none, and nothing else can. Assumes nothing.
+use Rattle.std.specs.Prelude.{◌≡◌, ℕ, ◌<◌, ◌↔◌, ◌⊎◌, List, [], ◌∷◌, Some, None}
 use Rattle.kinds.specs.Kind.{Arithmetic}
 use Rattle.plans.specs.Sheet.{Contents}
 use Rattle.plans.specs.Posting.{Column, Work, stop, again, overflow, blank, topped, column_B, normalised, at, size_at, pivot_of, runner_up_of, turn, rounds, total_size, posted}
@@ -35,12 +35,18 @@ module _ {N C : Type 0} (a : Arithmetic N C) where
   abbrev pub LacksReduced : Column N → Column N → Type 0
   LacksReduced c d = (q : N) × (a.quotient c.top d.top ≡ Some q) × LacksColumn c (a.negative q) d
 
+  -- the same of the end: of B's top, or, only where that comes to size 0, of an entry below it
+  abbrev pub LacksFinish : Column N → Column N → Type 0
+  LacksFinish b d =
+      (q : N) × (a.quotient b.top d.top ≡ Some q) ×
+      ((a.add_product b.top (a.negative q) d.top ≡ None) ⊎ ((t : N) × (a.add_product b.top (a.negative q) d.top ≡ Some t) × (a.size t ≡ 0) × Lacks b.low (a.negative q) d.low))
+
   -- v comes from w by rounds
   pub data Comes : Work N → Work N → Type 0 where
     here : (w : Work N) → Comes w w
     onward : (w u v : Work N) → turn a w ≡ again u → Comes u v → Comes w v
 
-  -- where the rounds from w lack a number: at a round, of the pivot l and the runner-up r
+  -- where the rounds from w lack a number: at a round that is made, of the pivot l and the runner-up r
   pub record LacksRound (w : Work N) : Type 0 where
     pub work : Work N
     pub l : ℕ
@@ -48,6 +54,7 @@ module _ {N C : Type 0} (a : Arithmetic N C) where
     pub comes : Comes w work
     pub pivot : pivot_of a work.columns ≡ Some l
     pub runner_up : runner_up_of a work.columns l ≡ Some r
+    pub goes_on : ¬ (size_at a work.columns r ≡ 0)
     pub lacks : LacksReduced work.B (at a work.columns l) ⊎ LacksReduced (at a work.columns l) (at a work.columns r)
 
   -- or at the end, where the pivot l is left
@@ -56,14 +63,16 @@ module _ {N C : Type 0} (a : Arithmetic N C) where
     pub l : ℕ
     pub comes : Comes w work
     pub stops : turn a work ≡ stop l
-    pub lacks : LacksReduced work.B (at a work.columns l)
+    pub lacks : LacksFinish work.B (at a work.columns l)
 
-  -- an add-product of a posting gives none: of the moves' tops, of B's top, of the columns normalised, of a round or of the end
+  -- an add-product of a posting gives none: of the moves' tops, of B's top, or, where not every move's top has size 0, of the
+  -- columns normalised, of a round or of the end
   pub data Lacking (s : Contents N) (cs : List N) (right : N) : Type 0 where
     in_tops : LacksTops cs s.moves → Lacking s cs right
     in_B : LacksSum (a.negative right) cs s.fixed → Lacking s cs right
-    in_units : (ds : List (Column N)) → topped a cs s.moves ≡ Some ds → LacksUnits ds → Lacking s cs right
-    in_rounds : (ds fs : List (Column N)) (b : Column N) → topped a cs s.moves ≡ Some ds → column_B a cs right s.fixed ≡ Some b → normalised a ds ≡ Some fs →
+    in_units : (ds : List (Column N)) (b : Column N) → topped a cs s.moves ≡ Some ds → column_B a cs right s.fixed ≡ Some b → ¬ (total_size a ds ≡ 0) →
+        LacksUnits ds → Lacking s cs right
+    in_rounds : (ds fs : List (Column N)) (b : Column N) → topped a cs s.moves ≡ Some ds → column_B a cs right s.fixed ≡ Some b → ¬ (total_size a ds ≡ 0) → normalised a ds ≡ Some fs →
         LacksRound (record { B = b; columns = fs }) ⊎ LacksEnd (record { B = b; columns = fs }) → Lacking s cs right
 
   -- in a posting nothing but an add-product can give none
@@ -78,7 +87,7 @@ module _ {N C : Type 0} (a : Arithmetic N C) where
     pub stays : (w v : Work N) → turn a w ≡ again v → ¬ (total_size a v.columns ≡ 0)
     -- a unit makes no top 0
     pub normal : (cs ds : List (Column N)) → normalised a cs ≡ Some ds → ¬ (total_size a cs ≡ 0) → ¬ (total_size a ds ≡ 0)
-    -- so the rounds come to none only where an add-product of one of them does
-    pub never_out : (n : ℕ) (w : Work N) → ¬ (total_size a w.columns ≡ 0) → total_size a w.columns < n → rounds a n w ≡ None → LacksRound w
-    -- and a posting overflows only where one of its add-products gives none
-    pub overflows : (s : Contents N) (cs : List N) (right : N) → posted a s cs right ≡ overflow → Lacking s cs right
+    -- so the rounds come to none exactly where an add-product of one of them does
+    pub never_out : (n : ℕ) (w : Work N) → ¬ (total_size a w.columns ≡ 0) → total_size a w.columns < n → (rounds a n w ≡ None) ↔ LacksRound w
+    -- and a posting overflows exactly where one of its add-products gives none
+    pub overflows : (s : Contents N) (cs : List N) (right : N) → (posted a s cs right ≡ overflow) ↔ Lacking s cs right
