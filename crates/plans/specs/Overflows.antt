@@ -35,7 +35,7 @@ module _ {N C : Type 0} (a : Arithmetic N C) where
   abbrev pub LacksReduced : Column N → Column N → Type 0
   LacksReduced c d = (q : N) × (a.quotient c.top d.top ≡ Some q) × LacksColumn c (a.negative q) d
 
-  -- the same of the end: of B's top, or, only where that comes to size 0, of an entry below it
+  -- the same of the end: of b's top, or, only where that comes to size 0, of an entry below it
   abbrev pub LacksFinish : Column N → Column N → Type 0
   LacksFinish b d =
       (q : N) × (a.quotient b.top d.top ≡ Some q) ×
@@ -46,7 +46,7 @@ module _ {N C : Type 0} (a : Arithmetic N C) where
     here : (w : Work N) → Comes w w
     onward : (w u v : Work N) → turn a w ≡ again u → Comes u v → Comes w v
 
-  -- where the rounds from w lack a number: at a round that is made, of the pivot l and the runner-up r
+  -- where the rounds from w lack a number: at a round, of the pivot l and a runner-up r whose top has not size 0
   pub record LacksRound (w : Work N) : Type 0 where
     pub work : Work N
     pub l : ℕ
@@ -65,8 +65,8 @@ module _ {N C : Type 0} (a : Arithmetic N C) where
     pub stops : turn a work ≡ stop l
     pub lacks : LacksFinish work.B (at a work.columns l)
 
-  -- an add-product of a posting gives none: of the moves' tops, of B's top, or, where not every move's top has size 0, of the
-  -- columns normalised, of a round or of the end
+  -- an add-product of a posting gives none: of the moves' tops, of B's top, or, where not every move's top has size 0,
+  -- of the columns normalised, of a round or of the end. One that comes after another that gives none counts too
   pub data Lacking (s : Contents N) (cs : List N) (right : N) : Type 0 where
     in_tops : LacksTops cs s.moves → Lacking s cs right
     in_B : LacksSum (a.negative right) cs s.fixed → Lacking s cs right

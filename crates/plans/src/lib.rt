@@ -18,7 +18,7 @@ pub fn samples_stand() -> u8
 }
 
 // The rounds of a posting end, in every kind: their number is bounded by the sizes of the tops. And a posting overflows
-// only where one of its add-products gives none.
+// exactly where one of its add-products gives none.
 pub fn rounds_end<K: Kind>() -> u8
     ensures turns { EnoughTurns K.arith }
     ensures products { OnlyProducts K.arith }
