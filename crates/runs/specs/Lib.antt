@@ -2,3 +2,4 @@ pub mod Calls
 pub mod Run
 pub mod Laws
 pub mod Promise
+pub mod OneAnswer

@@ -1,0 +1,56 @@
+-- At most one answer to a posting is right. Assumes nothing.
+use Rattle.std.proofs.Common.{◌≡◌, ℕ, List, Ok, Err, sym, refl, ap, ◌∙◌}
+use Rattle.faults.specs.declared.NumberFault.TheVariants.{Lowest, Modulus, Unknowns, ListNumber, NotAdmitted}
+use Rattle.faults.specs.declared.SheetFault.TheVariants.{Page, Line, Number, NoSheet, Count, FewCells, Overflow, Contradicted}
+use Rattle.kinds.specs.Kind.{Arithmetic}
+use Rattle.kinds.specs.Equation.{Equation}
+use Rattle.plans.specs.Solution.{Judgement, is_taken, is_implied, is_contradicted, Verdict}
+use Rattle.runs.specs.Calls.{Answered}
+use Rattle.runs.specs.Promise.{judged, GoesThrough}
+use Rattle.runs.specs.OneAnswer.{OneAnswer}
+
+-- an answer is one of the four refusals, or goes through
+data Fate (r : Answered) : Type 0 where
+  no_unknowns : r ≡ Err NoSheet → Fate r
+  count : r ≡ Err Count → Fate r
+  word : (i : ℕ) → r ≡ Err (Number (NotAdmitted i)) → Fate r
+  overflows : r ≡ Err Overflow → Fate r
+  through : GoesThrough r → Fate r
+
+goes : (r : Answered) → ¬ (r ≡ Err NoSheet) → ¬ (r ≡ Err Count) → ((i : ℕ) → ¬ (r ≡ Err (Number (NotAdmitted i)))) → ¬ (r ≡ Err Overflow) → Fate r
+goes r a b c d = through (record { has_unknowns = a; right_count = b; words_admitted = c; no_overflow = d })
+
+fate : (r : Answered) → Fate r
+fate (Err NoSheet) = no_unknowns refl
+fate (Err Count) = count refl
+fate (Err (Number (NotAdmitted i))) = word i refl
+fate (Err Overflow) = overflows refl
+fate (Ok success) = goes _ (λ e. absurd cc) (λ e. absurd cc) (λ i e. absurd cc) (λ e. absurd cc)
+fate (Err (Page fault)) = goes _ (λ e. absurd cc) (λ e. absurd cc) (λ i e. absurd cc) (λ e. absurd cc)
+fate (Err (Line fault)) = goes _ (λ e. absurd cc) (λ e. absurd cc) (λ i e. absurd cc) (λ e. absurd cc)
+fate (Err FewCells) = goes _ (λ e. absurd cc) (λ e. absurd cc) (λ i e. absurd cc) (λ e. absurd cc)
+fate (Err Contradicted) = goes _ (λ e. absurd cc) (λ e. absurd cc) (λ i e. absurd cc) (λ e. absurd cc)
+fate (Err (Number Lowest)) = goes _ (λ e. absurd cc) (λ e. absurd cc) (λ i e. absurd cc) (λ e. absurd cc)
+fate (Err (Number Modulus)) = goes _ (λ e. absurd cc) (λ e. absurd cc) (λ i e. absurd cc) (λ e. absurd cc)
+fate (Err (Number Unknowns)) = goes _ (λ e. absurd cc) (λ e. absurd cc) (λ i e. absurd cc) (λ e. absurd cc)
+fate (Err (Number ListNumber)) = goes _ (λ e. absurd cc) (λ e. absurd cc) (λ i e. absurd cc) (λ e. absurd cc)
+
+-- of the three verdicts only one is right
+one_verdict : {m n : ℕ} {es : List Equation} {e : Equation} (j k : Judgement) → Verdict m n es e j → Verdict m n es e k → k ≡ j
+one_verdict is_taken k v w = w.some_do.1 (v.some_do.0 refl)
+one_verdict is_implied k v w = w.all_do.1 (v.all_do.0 refl)
+one_verdict is_contradicted k v w = w.none_does.1 (v.none_does.0 refl)
+
+pub one_right : {N C : Type 0} (a : Arithmetic N C) → OneAnswer a
+one_right {N} {C} a n es m ws r q v w = by (fate r) (fate q)
+  where
+    by : Fate r → Fate q → r ≡ q
+    by (no_unknowns e) _ = e ∙ sym (w.no_unknowns.1 (v.no_unknowns.0 e))
+    by (count e) _ = e ∙ sym (w.count.1 (v.count.0 e))
+    by (word i e) _ = e ∙ sym ((w.word i).1 ((v.word i).0 e))
+    by (overflows e) _ = e ∙ sym (w.overflows.1 (v.overflows.0 e))
+    by (through g) (no_unknowns e) = v.no_unknowns.1 (w.no_unknowns.0 e) ∙ sym e
+    by (through g) (count e) = v.count.1 (w.count.0 e) ∙ sym e
+    by (through g) (word i e) = (v.word i).1 ((w.word i).0 e) ∙ sym e
+    by (through g) (overflows e) = v.overflows.1 (w.overflows.0 e) ∙ sym e
+    by (through g) (through h) = let j = v.verdict g in let k = w.verdict h in j.1 ∙ ap judged (sym (one_verdict j.0 k.0 j.2 k.2)) ∙ sym k.1

@@ -1,0 +1,12 @@
+// Theorems about the promise and the laws that it rests on: what is wrong, they refuse. What a function that carries one
+// answers means nothing.
+ghost use Rattle.runs.specs.OneAnswer.{OneAnswer};
+
+use kinds::kind::Kind;
+
+// Of two answers to a posting at most one is right, in every kind.
+pub fn one_answer<K: Kind>() -> u8
+    ensures { OneAnswer K.Kind.arith }
+{
+    0
+}
