@@ -3,3 +3,4 @@ pub mod Run
 pub mod Laws
 pub mod Promise
 pub mod OneAnswer
+pub mod Samples
