@@ -1,12 +1,39 @@
 -- Samples over two unknowns of what the promise, and the laws that it rests on, accept and refuse. Assumes nothing.
-use Rattle.std.specs.Prelude.{[], ◌∷◌, pos, negsuc}
+use Rattle.std.specs.Prelude.{◌≡◌, ℕ, ◌-◌, List, [], ◌∷◌, ◌++◌, map, length, replicate, ℤ, pos, negsuc, Ok, Err}
+use Rattle.faults.specs.Faults.{sheet_fault}
+use Rattle.faults.specs.declared.NumberFault.TheVariants.{Unknowns, ListNumber}
+use Rattle.faults.specs.declared.SheetFault.TheVariants.{Number, FewCells, Overflow}
 use Rattle.kinds.specs.Equation.{Equation}
+use Rattle.kinds.specs.Whole.{wholes}
+use Rattle.kinds.specs.declared.whole.WholeCell.{WholeCell}
 use Rattle.plans.specs.Samples.{pair}
 use Rattle.plans.specs.Solution.{General}
+use Rattle.sheets.specs.Law.{StandsFor, Sound, SpareZero, RefusalsExact, PostLaw, ClearLaw, PickLaw}
+use Rattle.sheets.specs.Sheet.{Model, checked, opened, post_left}
+use Rattle.sheets.specs.declared.posting.Verdict.TheVariants.{Taken, Implied}
 
 -- 3 x + 5 y = 1
 abbrev pub sum_one : Equation
 sum_one = record { coefficients = pair (pos 3) (pos 5); right = pos 1 }
+
+-- the same as words
+abbrev pub one_words : List ℤ
+one_words = pos 3 ∷ (pos 5 ∷ (pos 1 ∷ []))
+
+-- cells of whole numbers: these, and zeros behind them until there are 15, as many as two unknowns need
+abbrev pub cells_of : List ℤ → List WholeCell
+cells_of zs = map (λ z. record { value = z }) zs ++ replicate (15 - length zs) (record { value = pos 0 })
+
+-- a sheet of two unknowns, with k moves, whose cells begin with these
+abbrev pub sheet_of : ℕ → List ℤ → Model WholeCell
+sheet_of k zs = record { cells = cells_of zs; unknowns = 2; moves = k; list = 1 }
+
+-- a new sheet of two unknowns, and what the posting of the equation leaves
+abbrev pub fresh : Model WholeCell
+fresh = opened wholes (pos 2) (pos 1) (cells_of [])
+
+abbrev pub after_one : Model WholeCell
+after_one = post_left wholes fresh one_words
 
 -- which fixed plans and moves are the general solution, of 3 x + 5 y = 1 and of no equation
 pub record SolutionSamples : Type 0 where
@@ -28,3 +55,29 @@ pub record SolutionSamples : Type 0 where
   pub one_kept : ¬ General 0 2 [] (pair (pos 0) (pos 0)) (pair (pos 1) (pos 0) ∷ [])
   -- of weekday numbers: with no move
   pub weekday_no_move : ¬ General 7 2 (sum_one ∷ []) (pair (pos 5) (pos 0)) []
+
+-- what the laws of single calls accept and refuse
+pub record CallSamples : Type 0 where
+  -- a new sheet stands for no equation, and not for one
+  pub stands : StandsFor wholes fresh []
+  pub stands_not : ¬ StandsFor wholes fresh (sum_one ∷ [])
+  -- each of its cells passes the check; one that holds -2147483648 does not, and 14 cells are too few
+  pub sound : Sound wholes fresh
+  pub bad_cell : ¬ Sound wholes (sheet_of 2 (negsuc 2147483647 ∷ []))
+  pub few_cells : ¬ Sound wholes (record { cells = replicate 14 (record { value = pos 0 }); unknowns = 2; moves = 2; list = 1 })
+  -- its spare cells hold zero; not where the last of them holds 1
+  pub spare : SpareZero wholes fresh
+  pub spare_not : ¬ SpareZero wholes (sheet_of 2 (replicate 14 (pos 0) ++ (pos 1 ∷ [])))
+  -- a posting may not leave the sheet as it was and be answered 0, nor be answered 1, nor refused by overflow
+  pub pretended : ¬ PostLaw wholes fresh one_words (Ok Taken) fresh
+  pub called_implied : ¬ PostLaw wholes fresh one_words (Ok Implied) fresh
+  pub called_overflow : ¬ RefusalsExact wholes fresh one_words (Err Overflow)
+  -- a clearing may not keep one move
+  pub one_kept : ¬ ClearLaw wholes fresh (Ok tt) (sheet_of 1 (pos 0 ∷ (pos 0 ∷ (pos 1 ∷ (pos 0 ∷ [])))))
+  -- a picking gives the plan that the choice makes, and may not skip the move
+  pub picked : PickLaw wholes after_one (pos 2 ∷ []) (Ok tt) (pair (negsuc 12) (pos 8))
+  pub move_skipped : ¬ PickLaw wholes after_one (pos 2 ∷ []) (Ok tt) (pair (negsuc 2) (pos 2))
+  -- the check of an opening, by each of its answers; too few cells are answered 13
+  pub checks : checked (pos 0) (pos 1) 15 ∷ (checked (pos 25) (pos 65536) 0 ∷ (checked (pos 2) (pos 65536) 0 ∷ (checked (pos 2) (pos 65535) 14 ∷ (checked (pos 2) (pos 65535) 15 ∷ []))))
+      ≡ Err (Number Unknowns) ∷ (Err (Number Unknowns) ∷ (Err (Number ListNumber) ∷ (Err FewCells ∷ (Ok tt ∷ []))))
+  pub thirteen : sheet_fault FewCells ≡ 13

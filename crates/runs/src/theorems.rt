@@ -1,7 +1,7 @@
 // Theorems about the promise and the laws that it rests on: what is wrong, they refuse. What a function that carries one
 // answers means nothing.
 ghost use Rattle.runs.specs.OneAnswer.{OneAnswer};
-ghost use Rattle.runs.specs.Samples.{SolutionSamples};
+ghost use Rattle.runs.specs.Samples.{SolutionSamples, CallSamples};
 
 use kinds::kind::Kind;
 
@@ -15,6 +15,7 @@ pub fn one_answer<K: Kind>() -> u8
 // The samples come out as they say.
 pub fn samples_stand() -> u8
     ensures solutions { SolutionSamples }
+    ensures calls { CallSamples }
 {
     0
 }

@@ -1,5 +1,6 @@
-use Rattle.runs.proofs.Solutions.{solutions}
+use Rattle.runs.proofs.SampleCalls.{calls}
+use Rattle.runs.proofs.SampleSolutions.{solutions}
 use Rattle.runs.proofs.theorems.samples_stand.Goals as goal
 
 pub returns : goal.returns
-returns c = record { solutions = solutions }
+returns c = record { solutions = solutions; calls = calls }
