@@ -2,7 +2,7 @@
 use Rattle.std.specs.Prelude.{◌≡◌, ℕ, ◌-◌, List, [], ◌∷◌, ◌++◌, map, length, replicate, ℤ, pos, negsuc, Ok, Err}
 use Rattle.faults.specs.Faults.{sheet_fault}
 use Rattle.faults.specs.declared.NumberFault.TheVariants.{Unknowns, ListNumber}
-use Rattle.faults.specs.declared.SheetFault.TheVariants.{Number, FewCells, Overflow}
+use Rattle.faults.specs.declared.SheetFault.TheVariants.{Number, FewCells, Overflow, Contradicted}
 use Rattle.kinds.specs.Equation.{Equation}
 use Rattle.kinds.specs.Whole.{wholes}
 use Rattle.kinds.specs.declared.whole.WholeCell.{WholeCell}
@@ -11,6 +11,11 @@ use Rattle.plans.specs.Solution.{General}
 use Rattle.sheets.specs.Law.{StandsFor, Sound, SpareZero, RefusalsExact, PostLaw, ClearLaw, PickLaw}
 use Rattle.sheets.specs.Sheet.{Model, checked, opened, post_left}
 use Rattle.sheets.specs.declared.posting.Verdict.TheVariants.{Taken, Implied}
+use Rattle.lines.specs.Page.{empty_page}
+use Rattle.runs.specs.declared.call.Success.TheVariants.{Done, Implied as IsImplied}
+use Rattle.runs.specs.Calls.{Answered, Called, posting, clearing}
+use Rattle.runs.specs.Run.{State}
+use Rattle.runs.specs.Promise.{Promise}
 
 -- 3 x + 5 y = 1
 abbrev pub sum_one : Equation
@@ -81,3 +86,33 @@ pub record CallSamples : Type 0 where
   pub checks : checked (pos 0) (pos 1) 15 ∷ (checked (pos 25) (pos 65536) 0 ∷ (checked (pos 2) (pos 65536) 0 ∷ (checked (pos 2) (pos 65535) 14 ∷ (checked (pos 2) (pos 65535) 15 ∷ []))))
       ≡ Err (Number Unknowns) ∷ (Err (Number Unknowns) ∷ (Err (Number ListNumber) ∷ (Err FewCells ∷ (Ok tt ∷ []))))
   pub thirteen : sheet_fault FewCells ≡ 13
+
+-- a run on the new sheet, and the posting of the equation with an answer
+abbrev pub start : State WholeCell
+start = record { sheet = fresh; plan = pair (pos 0) (pos 0); page = empty_page [] }
+
+abbrev pub one_call : Answered → List (Called × Answered)
+one_call r = (posting one_words, r) ∷ []
+
+-- four calls that are answered 0, 1, 16 and 0
+abbrev pub four_calls : List (Called × Answered)
+four_calls =
+    (posting one_words, Ok Done)
+    ∷ ((posting (pos 6 ∷ (pos 10 ∷ (pos 2 ∷ []))), Ok IsImplied)
+    ∷ ((posting (pos 6 ∷ (pos 10 ∷ (pos 3 ∷ []))), Err Contradicted)
+    ∷ ((clearing, Ok Done)
+    ∷ [])))
+
+-- what the promise accepts and refuses
+pub record RunSamples : Type 0 where
+  -- it is kept by the posting answered 0, with the sheet that the posting leaves, and by four calls with what they leave
+  pub kept : Promise wholes start (one_call (Ok Done)) after_one
+  pub four_kept : Promise wholes start four_calls fresh
+  -- no other answer to the posting keeps it, whatever sheet is left: not 1, nor 16, nor any other refusal
+  pub one_answer : (r : Answered) (m : Model WholeCell) → Promise wholes start (one_call r) m → r ≡ Ok Done
+  -- nor does 0 with the move doubled, with the sheet as it was, or with its unknowns lost
+  pub doubled : ¬ Promise wholes start (one_call (Ok Done)) (sheet_of 1 (negsuc 2 ∷ (pos 2 ∷ (negsuc 9 ∷ (pos 6 ∷ [])))))
+  pub pretended : ¬ Promise wholes start (one_call (Ok Done)) fresh
+  pub unknowns_lost : ¬ Promise wholes start (one_call (Ok Done)) (record { cells = after_one.cells; unknowns = 0; moves = 0; list = 1 })
+  -- a clearing may not keep one move
+  pub one_kept : ¬ Promise wholes start ((clearing, Ok Done) ∷ []) (sheet_of 1 (pos 0 ∷ (pos 0 ∷ (pos 1 ∷ (pos 0 ∷ [])))))

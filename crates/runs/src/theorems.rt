@@ -1,7 +1,7 @@
 // Theorems about the promise and the laws that it rests on: what is wrong, they refuse. What a function that carries one
 // answers means nothing.
 ghost use Rattle.runs.specs.OneAnswer.{OneAnswer};
-ghost use Rattle.runs.specs.Samples.{SolutionSamples, CallSamples};
+ghost use Rattle.runs.specs.Samples.{SolutionSamples, CallSamples, RunSamples};
 
 use kinds::kind::Kind;
 
@@ -16,6 +16,7 @@ pub fn one_answer<K: Kind>() -> u8
 pub fn samples_stand() -> u8
     ensures solutions { SolutionSamples }
     ensures calls { CallSamples }
+    ensures runs { RunSamples }
 {
     0
 }

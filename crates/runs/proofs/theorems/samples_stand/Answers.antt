@@ -1,6 +1,7 @@
 use Rattle.runs.proofs.SampleCalls.{calls}
+use Rattle.runs.proofs.SampleRuns.{runs}
 use Rattle.runs.proofs.SampleSolutions.{solutions}
 use Rattle.runs.proofs.theorems.samples_stand.Goals as goal
 
 pub returns : goal.returns
-returns c = record { solutions = solutions; calls = calls }
+returns c = record { solutions = solutions; calls = calls; runs = runs }
