@@ -4,3 +4,4 @@ pub mod Laws
 pub mod Promise
 pub mod OneAnswer
 pub mod Samples
+pub mod SampleKinds
