@@ -19,7 +19,7 @@ use Rattle.runs.specs.Promise.{RightlyAnswered, Promise}
 use Rattle.runs.specs.Run.{State, left_by, left}
 use Rattle.runs.specs.Samples.{cells_of, one_words, fresh, after_one, start, one_call, four_calls, RunSamples}
 use Rattle.runs.proofs.Kept.{Keeps, paired, calls_promised}
-use Rattle.runs.proofs.OneRight.{one_right}
+use Rattle.runs.proofs.Unique.{one_right}
 use Rattle.runs.proofs.SampleCalls.{fresh_stands}
 use Rattle.runs.proofs.SampleSolutions.{no_double, not_pretended, not_one_kept}
 

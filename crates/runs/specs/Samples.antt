@@ -42,6 +42,7 @@ after_one = post_left wholes fresh one_words
 
 -- which fixed plans and moves are the general solution, of 3 x + 5 y = 1 and of no equation
 pub record SolutionSamples : Type 0 where
+  -- of whole numbers and of weekday numbers, as one posting to a new sheet leaves them
   pub whole : General 0 2 (sum_one ∷ []) (pair (negsuc 2) (pos 2)) (pair (negsuc 4) (pos 3) ∷ [])
   pub weekday : General 7 2 (sum_one ∷ []) (pair (pos 5) (pos 0)) (pair (pos 5) (pos 4) ∷ [])
   -- not with the move doubled
@@ -73,9 +74,10 @@ pub record CallSamples : Type 0 where
   -- its spare cells hold zero; not where the last of them holds 1
   pub spare : SpareZero wholes fresh
   pub spare_not : ¬ SpareZero wholes (sheet_of 2 (replicate 14 (pos 0) ++ (pos 1 ∷ [])))
-  -- a posting may not leave the sheet as it was and be answered 0, nor be answered 1, nor refused by overflow
+  -- a posting may not leave the sheet as it was and be answered 0, nor be answered 1 or 16, nor refused by overflow
   pub pretended : ¬ PostLaw wholes fresh one_words (Ok Taken) fresh
   pub called_implied : ¬ PostLaw wholes fresh one_words (Ok Implied) fresh
+  pub called_contradicted : ¬ PostLaw wholes fresh one_words (Err Contradicted) fresh
   pub called_overflow : ¬ RefusalsExact wholes fresh one_words (Err Overflow)
   -- a clearing may not keep one move
   pub one_kept : ¬ ClearLaw wholes fresh (Ok tt) (sheet_of 1 (pos 0 ∷ (pos 0 ∷ (pos 1 ∷ (pos 0 ∷ [])))))
@@ -105,7 +107,7 @@ four_calls =
 
 -- what the promise accepts and refuses
 pub record RunSamples : Type 0 where
-  -- it is kept by the posting answered 0, with the sheet that the posting leaves, and by four calls with what they leave
+  -- it is kept by the posting answered 0 with the sheet that this leaves, and by the four calls with theirs
   pub kept : Promise wholes start (one_call (Ok Done)) after_one
   pub four_kept : Promise wholes start four_calls fresh
   -- no other answer to the posting keeps it, whatever sheet is left: not 1, nor 16, nor any other refusal

@@ -1,13 +1,15 @@
--- At most one answer to a posting is right. Assumes nothing.
-use Rattle.std.proofs.Common.{◌≡◌, ℕ, List, Ok, Err, sym, refl, ap, ◌∙◌}
+-- At most one answer to a posting is right, and two sheets that keep the promise of the same calls make the same plans.
+use Rattle.std.proofs.Common.{◌≡◌, ℕ, List, length, ℤ, Ok, Err, sym, refl, ap, ◌∙◌, subst}
 use Rattle.faults.specs.declared.NumberFault.TheVariants.{Lowest, Modulus, Unknowns, ListNumber, NotAdmitted}
 use Rattle.faults.specs.declared.SheetFault.TheVariants.{Page, Line, Number, NoSheet, Count, FewCells, Overflow, Contradicted}
 use Rattle.kinds.specs.Kind.{Arithmetic}
 use Rattle.kinds.specs.Equation.{Equation}
-use Rattle.plans.specs.Solution.{Judgement, is_taken, is_implied, is_contradicted, Verdict}
-use Rattle.runs.specs.Calls.{Answered}
-use Rattle.runs.specs.Promise.{judged, GoesThrough}
-use Rattle.runs.specs.OneAnswer.{OneAnswer}
+use Rattle.plans.specs.Solution.{Judgement, is_taken, is_implied, is_contradicted, Verdict, MeetsAll}
+use Rattle.sheets.specs.Sheet.{Model}
+use Rattle.runs.specs.Calls.{Answered, Called}
+use Rattle.runs.specs.Promise.{in_force, judged, GoesThrough, Promise}
+use Rattle.runs.specs.Run.{State}
+use Rattle.runs.specs.Unique.{OneAnswer, SheetMakes, OneSolution}
 
 -- an answer is one of the four refusals, or goes through
 data Fate (r : Answered) : Type 0 where
@@ -54,3 +56,13 @@ one_right {N} {C} a n es m ws r q v w = by (fate r) (fate q)
     by (through g) (word i e) = (v.word i).1 ((w.word i).0 e) ∙ sym e
     by (through g) (overflows e) = v.overflows.1 (w.overflows.0 e) ∙ sym e
     by (through g) (through h) = let j = v.verdict g in let k = w.verdict h in j.1 ∙ ap judged (sym (one_verdict j.0 k.0 j.2 k.2)) ∙ sym k.1
+
+module _ {N C : Type 0} (a : Arithmetic N C) (s : State C) (calls : List (Called × Answered)) where
+  -- a plan that the first sheet makes meets the equations in force, so the second makes it
+  makes_too : (m t : Model C) → Promise a s calls m → Promise a s calls t → (plan : List ℤ) → length plan ≡ s.sheet.unknowns → SheetMakes a m plan → SheetMakes a t plan
+  makes_too m t p q plan long made =
+      let meets = (p.general.general.meets_iff_made plan (long ∙ sym p.unknowns)).1 made in
+      (q.general.general.meets_iff_made plan (long ∙ sym q.unknowns)).0 (subst (λ (n : ℕ). MeetsAll a.modulus (in_force n calls) plan) (p.unknowns ∙ sym q.unknowns) meets)
+
+pub one_solution : {N C : Type 0} (a : Arithmetic N C) → OneSolution a
+one_solution a s calls m t p q plan long = (makes_too a s calls m t p q plan long, makes_too a s calls t m q p plan long)
