@@ -1,7 +1,8 @@
 -- What the promise of a run accepts and refuses, of sheets of two unknowns.
-use Rattle.std.proofs.Common.{◌≡◌, ℕ, ◌<◌, ◌≤◌, Bool, true, false, cond, List, [], ◌∷◌, map, ℤ, pos, Some, None, Ok, Err, Option, Result, refl, subst, arith, lit<, w32, SFits}
+use Rattle.std.proofs.Common.{◌≡◌, ℕ, ◌<◌, ◌≤◌, Bool, true, false, cond, List, [], ◌∷◌, map, negsuc, ℤ, pos, Some, None, Ok, Err, Option, Result, refl, subst, arith, lit<, w32, SFits}
 use Rattle.std.specs.List.{AllByRecursion}
 use Rattle.kinds.specs.Kind.{Arithmetic, Laws}
+use Rattle.kinds.specs.Sames.{same_eq}
 use Rattle.kinds.specs.Whole.{wholes}
 use Rattle.kinds.specs.Wholes.{whole_laws}
 use Rattle.kinds.specs.declared.whole.WholeCell.{WholeCell}
@@ -17,7 +18,7 @@ use Rattle.runs.specs.Calls.{Answered, Called, posting, clearing, picking, showi
 use Rattle.runs.specs.Laws.{CallLaw, CallsLaw}
 use Rattle.runs.specs.Promise.{RightlyAnswered, Promise}
 use Rattle.runs.specs.Run.{State, left_by, left}
-use Rattle.runs.specs.Samples.{cells_of, one_words, fresh, after_one, start, one_call, four_calls, RunSamples}
+use Rattle.runs.specs.Samples.{cells_of, one_words, fresh, after_one, start, one_call, four_calls, sheet_of, far_words, near_words, two_calls, RunSamples}
 use Rattle.runs.proofs.Kept.{Keeps, paired, calls_promised}
 use Rattle.runs.proofs.Unique.{one_right}
 use Rattle.runs.proofs.SampleCalls.{fresh_stands}
@@ -93,6 +94,12 @@ kept = promised (posting one_words ∷ []) (one_fits, tt)
 four_kept : Promise wholes start four_calls fresh
 four_kept = promised (map (λ (call : Called × Answered). call.0) four_calls) (one_fits, (row_fits 6 10 2 (lit< tt) (lit< tt) (lit< tt), (row_fits 6 10 3 (lit< tt) (lit< tt) (lit< tt), (tt, tt))))
 
+far_fits : AllByRecursion (SFits w32) far_words
+far_fits = (record { sfits = omega arith }, (record { sfits = lit< tt }, (record { sfits = omega arith }, tt)))
+
+overflow_kept : Promise wholes start two_calls (sheet_of 1 (pos 0 ∷ (pos 0 ∷ (negsuc 2147483646 ∷ (negsuc 0 ∷ [])))))
+overflow_kept = promised (posting far_words ∷ (posting near_words ∷ [])) (far_fits, (row_fits 1 1 0 (lit< tt) (lit< tt) (lit< tt), tt))
+
 -- the one answer of the posting is right, whatever sheet is left
 one_answer : (r : Answered) (m : Model WholeCell) → Promise wholes start (one_call r) m → r ≡ Ok Done
 one_answer r m p =
@@ -106,6 +113,8 @@ pub runs : RunSamples
 runs = record {
   kept = kept;
   four_kept = four_kept;
+  overflow_kept = overflow_kept;
+  plan_there = (same_eq refl, (same_eq refl, tt));
   one_answer = one_answer;
   doubled = λ p. no_double p.general.general;
   pretended = λ p. not_pretended p.general.general;

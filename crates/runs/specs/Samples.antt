@@ -7,8 +7,8 @@ use Rattle.kinds.specs.Equation.{Equation}
 use Rattle.kinds.specs.Whole.{wholes}
 use Rattle.kinds.specs.declared.whole.WholeCell.{WholeCell}
 use Rattle.plans.specs.Samples.{pair}
-use Rattle.plans.specs.Solution.{General}
-use Rattle.sheets.specs.Law.{StandsFor, Sound, SpareZero, RefusalsExact, PostLaw, ClearLaw, PickLaw}
+use Rattle.plans.specs.Solution.{MeetsAll, General}
+use Rattle.sheets.specs.Law.{equation_of, StandsFor, Sound, SpareZero, RefusalsExact, PostLaw, ClearLaw, PickLaw}
 use Rattle.sheets.specs.Sheet.{Model, checked, opened, post_left}
 use Rattle.sheets.specs.declared.posting.Verdict.TheVariants.{Taken, Implied}
 use Rattle.lines.specs.Page.{empty_page}
@@ -105,11 +105,24 @@ four_calls =
     ∷ ((clearing, Ok Done)
     ∷ [])))
 
+-- x - 2147483647 y = 0, taken, and x + y = 0, refused by overflow
+abbrev pub far_words : List ℤ
+far_words = pos 1 ∷ (negsuc 2147483646 ∷ (pos 0 ∷ []))
+
+abbrev pub near_words : List ℤ
+near_words = pos 1 ∷ (pos 1 ∷ (pos 0 ∷ []))
+
+abbrev pub two_calls : List (Called × Answered)
+two_calls = (posting far_words, Ok Done) ∷ ((posting near_words, Err Overflow) ∷ [])
+
 -- what the promise accepts and refuses
 pub record RunSamples : Type 0 where
   -- it is kept by the posting answered 0 with the sheet that this leaves, and by the four calls with theirs
   pub kept : Promise wholes start (one_call (Ok Done)) after_one
   pub four_kept : Promise wholes start four_calls fresh
+  -- and by an overflow, after which the sheet is as it was, though a plan meets both equations
+  pub overflow_kept : Promise wholes start two_calls (sheet_of 1 (pos 0 ∷ (pos 0 ∷ (negsuc 2147483646 ∷ (negsuc 0 ∷ [])))))
+  pub plan_there : MeetsAll 0 (equation_of 2 near_words ∷ (equation_of 2 far_words ∷ [])) (pair (pos 0) (pos 0))
   -- no other answer to the posting keeps it, whatever sheet is left: not 1, nor 16, nor any other refusal
   pub one_answer : (r : Answered) (m : Model WholeCell) → Promise wholes start (one_call r) m → r ≡ Ok Done
   -- nor does 0 with the move doubled, with the sheet as it was, or with its unknowns lost
