@@ -8,7 +8,7 @@ use Rattle.kinds.specs.Sames.{same_eq}
 use Rattle.kinds.specs.Weekday.{day, weekdays}
 use Rattle.kinds.specs.Weekdays.{weekday_laws}
 use Rattle.kinds.specs.Whole.{nearest, wholes}
-use Rattle.plans.specs.Overflows.{LacksSum, LacksTops, Lacks, LacksColumn, LacksUnits, LacksReduced, LacksRound, LacksEnd, Lacking, in_tops, in_B, in_units, in_rounds}
+use Rattle.plans.specs.Overflows.{LacksSum, LacksTops, Lacks, LacksColumn, LacksUnits, LacksReduced, LacksFinish, LacksRound, LacksEnd, Lacking, in_tops, in_B, in_units, in_rounds}
 use Rattle.plans.specs.Posting.{Column, Work, blank, at}
 use Rattle.plans.specs.Sheet.{Contents}
 use Rattle.plans.proofs.Lacking.{only_products}
@@ -66,17 +66,20 @@ module _ {N C : Type 0} (a : Arithmetic N C) where
     no_reduced : (c d : Column N) → ¬ LacksReduced a c d
     no_reduced c d h = no_column c (a.negative h.0) d h.2
 
+    no_finish : (b d : Column N) → ¬ LacksFinish a b d
+    no_finish b d h = ⊎_elim (adds b.top (a.negative h.0) d.top) (λ t. none_lacks b.low (a.negative h.0) d.low t.3) h.2
+
     none_lacking : (s : Contents N) (cs : List N) (right : N) → ¬ Lacking a s cs right
     none_lacking s cs right (in_tops h) = no_tops cs s.moves h
     none_lacking s cs right (in_B h) = no_sum (a.negative right) cs s.fixed h
-    none_lacking s cs right (in_units ds t h) = no_units ds h
-    none_lacking s cs right (in_rounds ds fs b t u n h) =
+    none_lacking s cs right (in_units ds b t u z h) = no_units ds h
+    none_lacking s cs right (in_rounds ds fs b t u z n h) =
         let w : Work N = record { B = b; columns = fs } in
         ⊎_elim (λ (r : LacksRound a w). ⊎_elim (no_reduced r.work.B (at a r.work.columns r.l)) (no_reduced (at a r.work.columns r.l) (at a r.work.columns r.r)) r.lacks)
-        (λ (e : LacksEnd a w). no_reduced e.work.B (at a e.work.columns e.l) e.lacks) h
+        (λ (e : LacksEnd a w). no_finish e.work.B (at a e.work.columns e.l) e.lacks) h
 
     pub never_overflows : Laws a → NeverOverflows a
-    never_overflows laws s cs right e = none_lacking s cs right ((only_products a laws).overflows s cs right e)
+    never_overflows laws s cs right e = none_lacking s cs right (((only_products a laws).overflows s cs right).0 e)
 
 pub weekdays_never : NeverOverflows weekdays
 weekdays_never = never_overflows weekdays (λ c q d e. absurd cc) weekday_laws
