@@ -3,6 +3,7 @@ pub mod Fresh
 pub mod Laying
 pub mod Limits
 pub mod Meanings
+pub mod NextPivot
 pub mod Numbers
 pub mod OneStep
 pub mod Outcomes

@@ -1,5 +1,5 @@
 -- Turns of the rounds, on the columns in cells.
-use Rattle.std.proofs.Common.{◌≡◌, ℕ, zero, suc, ◌+◌, ◌<◌, Bool, true, false, cond, eqb, ltb, ◌≢◌, List, length, Some, None, Ok, Option, sym, refl, ap, ◌∙◌, arith}
+use Rattle.std.proofs.Common.{◌≡◌, ℕ, zero, suc, ◌+◌, ◌<◌, true, false, cond, eqb, ltb, ◌≢◌, List, length, Some, None, Ok, Option, sym, refl, ap, ◌∙◌, arith}
 use Rattle.std.proofs.lemmas.Bool.{cond-true, cond-false}
 use Rattle.kinds.specs.Kind.{Arithmetic, Laws}
 use Rattle.plans.specs.Posting.{Column, Work, stop, again, fail, larger, largest_of, size_at, pivot_of, runner_up_of, round, turned, turn_by, turn_at, turn, on, rounds, total_size}
@@ -9,6 +9,7 @@ use Rattle.sheets.specs.Cells.{top_size}
 use Rattle.sheets.specs.Work.{columns_at, work_at, work_cells, rounds_at, Ended}
 use Rattle.sheets.specs.Combining.{Within}
 use Rattle.sheets.proofs.Limits.{within_trans}
+use Rattle.sheets.proofs.NextPivot.{next_pivot}
 use Rattle.sheets.proofs.Rounding.{length_columns, column_of}
 
 largest_same : (f g : ℕ → ℕ) (s n : ℕ) → ((j : ℕ) → j < n → f j ≡ g j) → largest_of f s n ≡ largest_of g s n
@@ -35,18 +36,18 @@ module _ {N C : Type 0} (a : Arithmetic N C) (n p k : ℕ) (cs : List C) where
   sizes : (j : ℕ) → j < k → size_at a T j ≡ top_size a cs (p + (n + 1)) n j
   sizes j h = ap (λ (c : Column N). a.size c.top) (column_of a n (p + (n + 1)) k cs j _ h)
 
-  pivots : pivot_of a T ≡ largest_of (top_size a cs (p + (n + 1)) n) k k
+  pub pivots : pivot_of a T ≡ largest_of (top_size a cs (p + (n + 1)) n) k k
   pivots = let l = length_columns a n (p + (n + 1)) k cs in (λ i. largest_of (size_at a T) (l i) (l i)) ∙ largest_same (size_at a T) (top_size a cs (p + (n + 1)) n) k k sizes
 
   runners : (l : ℕ) → runner_up_of a T l ≡ largest_of (top_size a cs (p + (n + 1)) n) l k
   runners l = let e = length_columns a n (p + (n + 1)) k cs in (λ i. largest_of (size_at a T) l (e i)) ∙ largest_same (size_at a T) (top_size a cs (p + (n + 1)) n) l k sizes
 
-  pub turn_fails : largest_of (top_size a cs (p + (n + 1)) n) k k ≡ None → turn a W ≡ fail
-  turn_fails e = ap (turn_at a W) (pivots ∙ e)
+  module _ (l : ℕ) (el : pivot_of a T ≡ Some l) where
+    pub pivot_below : l < k
+    pivot_below = let b = (best_some (size_at a T) (length T) (length T) l el).0 in let e = length_columns a n (p + (n + 1)) k cs in omega arith
 
-  module _ (l : ℕ) (el : largest_of (top_size a cs (p + (n + 1)) n) k k ≡ Some l) where
     turn_l : turn a W ≡ turn_by a W l (largest_of (top_size a cs (p + (n + 1)) n) l k)
-    turn_l = ap (turn_at a W) (pivots ∙ el) ∙ ap (turn_by a W l) (runners l)
+    turn_l = ap (turn_at a W) el ∙ ap (turn_by a W l) (runners l)
 
     pub turn_alone : largest_of (top_size a cs (p + (n + 1)) n) l k ≡ None → turn a W ≡ stop l
     turn_alone e = turn_l ∙ ap (turn_by a W l) e
@@ -67,6 +68,9 @@ module _ {N C : Type 0} (a : Arithmetic N C) (n p k : ℕ) (cs : List C) where
       pub pivot_not_runner : l ≢ r
       pivot_not_runner e = (best_some (top_size a cs (p + (n + 1)) n) l k r er).1 (sym e)
 
+      pub next : (laws : Laws a) (ds : List C) → turn a W ≡ again (work_at a ds n p k) → pivot_of a (columns_at a ds n (p + (n + 1)) k) ≡ Some r
+      next laws ds e = next_pivot a laws W (work_at a ds n p k) l r el (runners l ∙ er) e
+
 -- the rounds so far: what is left of them comes to the same
 pub record SoFar {N C : Type 0} (a : Arithmetic N C) (n p k : ℕ) (start now : List C) : Type 0 where
   pub inside : Within p (work_cells a n k) start now
@@ -86,27 +90,12 @@ module _ {N C : Type 0} (a : Arithmetic N C) (laws : Laws a) (n p k : ℕ) where
   pub far_more : (start cs ds : List C) → SoFar a n p k start cs → turn a (work_at a cs n p k) ≡ again (work_at a ds n p k) → Within p (work_cells a n k) cs ds → SoFar a n p k start ds
   far_more start cs ds f e w = record { inside = within_trans f.inside w; same = sym (rounds_on cs ds e) ∙ f.same }
 
-  -- where a turn stops, its pivot is one of the columns
-  stop_below : (cs : List C) (l : ℕ) → turn a (work_at a cs n p k) ≡ stop l → l < k
-  stop_below cs l e = by (pivot_of a (columns_at a cs n (p + (n + 1)) k)) refl e
-    where
-      by_stop : (w : Work N) (m : ℕ) (o : Option ℕ) → turn_by a w m o ≡ stop l → m ≡ l
-      by_stop w m None e = cc
-      by_stop w m (Some r) e = go (eqb (size_at a w.columns r) 0) (round a w m r) e
-        where
-          go : (b : Bool) (o : Option (Work N)) → cond b (stop m) (turned a o) ≡ stop l → m ≡ l
-          go true o e = cc
-          go false None e = let z : ◌≡◌ {A = ℕ} 0 1 = cc in absurd (omega arith)
-          go false (Some v) e = let z : ◌≡◌ {A = ℕ} 0 1 = cc in absurd (omega arith)
+  -- with no column there is no turn
+  pub far_none : (start : List C) → pivot_of a (columns_at a start n (p + (n + 1)) k) ≡ None → rounds_at a start n p k ≡ None
+  far_none start e = let w = work_at a start n p k in ap (λ (o : Option ℕ). on a (rounds a (total_size a w.columns)) w (turn_at a w o)) e
 
-      by : (o : Option ℕ) → pivot_of a (columns_at a cs n (p + (n + 1)) k) ≡ o → turn_at a (work_at a cs n p k) o ≡ stop l → l < k
-      by None q e = let z : ◌≡◌ {A = ℕ} 0 1 = cc in absurd (omega arith)
-      by (Some m) q e =
-          let T = columns_at a cs n (p + (n + 1)) k in
-          let s = by_stop (work_at a cs n p k) m (runner_up_of a T m) e in
-          let b = (best_some (size_at a T) (length T) (length T) m q).0 in
-          let len = length_columns a n (p + (n + 1)) k cs in
-          omega arith
+  pub far_fail : (start cs : List C) → SoFar a n p k start cs → turn a (work_at a cs n p k) ≡ fail → rounds_at a start n p k ≡ None
+  far_fail start cs f e = sym f.same ∙ ap (on a (rounds a (total_size a (columns_at a cs n (p + (n + 1)) k))) (work_at a cs n p k)) e
 
-  pub far_stop : (start cs : List C) (l : ℕ) → SoFar a n p k start cs → turn a (work_at a cs n p k) ≡ stop l → Ended a n p k start (Ok l) cs
-  far_stop start cs l f e = (sym f.same ∙ ap (on a (rounds a (total_size a (columns_at a cs n (p + (n + 1)) k))) (work_at a cs n p k)) e, stop_below cs l e, f.inside)
+  pub far_stop : (start cs : List C) (l : ℕ) → SoFar a n p k start cs → l < k → turn a (work_at a cs n p k) ≡ stop l → Ended a n p k start (Ok l) cs
+  far_stop start cs l f h e = (sym f.same ∙ ap (on a (rounds a (total_size a (columns_at a cs n (p + (n + 1)) k))) (work_at a cs n p k)) e, h, f.inside)

@@ -4,7 +4,7 @@ use Rattle.std.specs.List.{range_with_len}
 use Rattle.kinds.specs.Kind.{Arithmetic}
 use Rattle.lines.specs.Page.{over}
 use Rattle.plans.specs.Sheet.{Contents}
-use Rattle.plans.specs.Posting.{Column, Work, Turn, stop, again, fail, Outcome, taken, contradicted, overflow, topped, normalised, rounds, total_size, without}
+use Rattle.plans.specs.Posting.{Column, Work, Turn, stop, again, fail, Outcome, taken, contradicted, overflow, topped, normalised, rounds, total_size, pivot_of, without}
 use Rattle.sheets.specs.declared.cells.Overflow.{Overflow}
 use Rattle.sheets.specs.Combining.{Within}
 use Rattle.sheets.specs.Cells.{part, numbers, number_at, moves_at}
@@ -40,11 +40,12 @@ module _ {N C : Type 0} (a : Arithmetic N C) where
   Worked o n p k before (Ok _) after = (o ≡ Some (work_at a after n p k)) × Within p (work_cells n k) before after
   Worked o n p k before (Err _) after = (o ≡ None) × Within p (work_cells n k) before after
 
-  -- a turn stopped at a pivot, went on, or failed
-  abbrev pub Turned : Turn N → ℕ → ℕ → ℕ → List C → Result (Option ℕ) Overflow → List C → Type 0
-  Turned t n p k before (Ok (Some l)) after = (t ≡ stop l) × (after ≡ before)
-  Turned t n p k before (Ok None) after = (t ≡ again (work_at a after n p k)) × Within p (work_cells n k) before after
-  Turned t n p k before (Err _) after = (t ≡ fail) × Within p (work_cells n k) before after
+  -- a turn from the pivot l went on to the next pivot, stopped, or failed
+  abbrev pub Turned : Turn N → ℕ → ℕ → ℕ → ℕ → List C → Result (Option ℕ) Overflow → List C → Type 0
+  Turned t l n p k before (Ok (Some r)) after =
+      (t ≡ again (work_at a after n p k)) × (pivot_of a (columns_at a after n (p + (n + 1)) k) ≡ Some r) × Within p (work_cells n k) before after
+  Turned t l n p k before (Ok None) after = (t ≡ stop l) × (after ≡ before)
+  Turned t l n p k before (Err _) after = (t ≡ fail) × Within p (work_cells n k) before after
 
   -- the rounds ended at a pivot, or failed
   abbrev pub rounds_at : List C → ℕ → ℕ → ℕ → Option (ℕ × Work N)

@@ -1,8 +1,8 @@
 // The rounds of a posting, on column B and the moves' columns.
 // That pivot and runner-up are moves is kept as a `requires`, as in the end of a posting.
-ghost use Rattle.std.specs.Prelude.{◌≡◌, ◌<◌, ◌≢◌};
-ghost use Rattle.plans.specs.Posting.{round as rounded, turn as turned};
-ghost use Rattle.sheets.specs.Table.{Step, work_of};
+ghost use Rattle.std.specs.Prelude.{◌≡◌, ◌<◌, ◌≢◌, Some};
+ghost use Rattle.plans.specs.Posting.{round as rounded, turn as turned, pivot_of};
+ghost use Rattle.sheets.specs.Table.{Step, work_of, columns_of};
 ghost use Rattle.sheets.specs.Work.{Worked, Turned, Ended};
 
 use crate::cells::Overflow;
@@ -28,19 +28,19 @@ impl<K: Kind> Table<'_, K> {
         reduce::<K>(self.cells, p, r, n)
     }
 
-    // One turn: the pivot where no runner-up is left, or None after a round.
-    fn turn(&mut self) -> Result<Option<usize>, Overflow>
+    // One turn from the pivot: after a round the runner-up, which is the next pivot; None where no runner-up is left.
+    fn turn(&mut self, pivot: usize) -> Result<Option<usize>, Overflow>
+        requires { pivot_of K.Kind.arith (columns_of self.old) ≡ Some pivot }
         ensures held { self.new.cells.ghost_name ≡ self.old.cells.ghost_name }
         ensures shape { self.new.shape ≡ self.old.shape }
-        ensures turned { Step (Turned K.Kind.arith (turned K.Kind.arith (work_of self.old))) self.old result self.new }
+        ensures turned { Step (Turned K.Kind.arith (turned K.Kind.arith (work_of self.old)) pivot) self.old result self.new }
     {
-        let pivot = self.largest(None).ok_or(Overflow)?;
         match self.largest(Some(pivot)) {
             Some(runner) if !self.top(runner).is_zero() => {
                 self.round(pivot, runner)?;
-                Ok(None)
+                Ok(Some(runner))
             }
-            _ => Ok(Some(pivot)),
+            _ => Ok(None),
         }
     }
 
@@ -50,11 +50,13 @@ impl<K: Kind> Table<'_, K> {
         ensures shape { self.new.shape ≡ self.old.shape }
         ensures ended { Step (Ended K.Kind.arith) self.old result self.new }
     {
-        let pivot = loop {
-            if let Some(pivot) = self.turn()? {
-                break pivot;
+        let mut pivot = self.largest(None).ok_or(Overflow)?;
+        let last = loop {
+            match self.turn(pivot)? {
+                Some(runner) => pivot = runner,
+                None => break pivot,
             }
         };
-        Ok(pivot)
+        Ok(last)
     }
 }

@@ -54,17 +54,12 @@ impl<K: Kind> Table<'_, K> {
         ensures within { IfSome result (λ b. b < self.now.shape.moves) }
     {
         let mut best = None;
+        let mut most = K::zero();
         for j in 0..self.shape.moves {
-            if skip != Some(j) {
-                let here = self.top(j);
-                match best {
-                    None => best = Some(j),
-                    Some(b) => {
-                        if self.top(b).smaller(here) {
-                            best = Some(j);
-                        }
-                    }
-                }
+            let here = self.top(j);
+            if skip != Some(j) && (best.is_none() || most.smaller(here)) {
+                best = Some(j);
+                most = here;
             }
         }
         best

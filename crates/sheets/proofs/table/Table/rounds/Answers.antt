@@ -1,41 +1,68 @@
-use Rattle.std.proofs.Common.{◌≡◌, Some, None, Ok, sym, ◌∙◌, subst, rules, List}
+use Rattle.std.proofs.Common.{◌≡◌, List, Some, None, Ok, sym, refl, ◌∙◌, subst, rules}
+use Rattle.std.proofs.lemmas.Result.{err_from_is_err_and}
 use Rattle.plans.specs.Posting.{turn as turned}
 use Rattle.sheets.specs.declared.shape.Shape.{Shape}
 use Rattle.sheets.specs.Cells.{main_cells}
 use Rattle.sheets.specs.Work.{work_at, Turned, Ended}
-use Rattle.sheets.proofs.Turning.{falls, far_more, far_stop}
+use Rattle.sheets.proofs.Limits.{within_same}
+use Rattle.sheets.proofs.Turning.{pivots, pivot_below, falls, far_more, far_none, far_stop}
 use Rattle.sheets.proofs.table.Table.rounds.Goals as goal
 
-pub loop-pivot-smaller : goal.loop-pivot-smaller
-loop-pivot-smaller g c =
+pub returns-in_err-pivot-clause-ended : goal.returns-in_err-pivot-clause-ended
+returns-in_err-pivot-clause-ended g c =
+    let a = g.K.Kind.arith in
+    let s = c.args.self.now in
+    let n = s.shape.unknowns in
+    let e : c.largest.result ≡ None = search rules in
+    let q = err_from_is_err_and c.from_residual.result c.from_residual.ensures.1 in
+    rw q.1 (far_none a g.met.K.Kind.kept n (main_cells n) s.shape.moves s.cells.now (pivots a n (main_cells n) s.shape.moves s.cells.now ∙ sym c.largest.ensures.value ∙ e), within_same)
+
+pub loop-runner-init : goal.loop-runner-init
+loop-runner-init g c =
+    let a = g.K.Kind.arith in
+    let s = c.args.self.now in
+    let n = s.shape.unknowns in
+    let e : c.largest.result ≡ Some c.in_ok-pivot.pivot = search rules in
+    record {
+      held = refl;
+      shape = refl;
+      pivot = pivots a n (main_cells n) s.shape.moves s.cells.now ∙ sym c.largest.ensures.value ∙ e;
+      so_far = record { inside = within_same; same = refl };
+    }
+
+pub loop-runner-smaller : goal.loop-runner-smaller
+loop-runner-smaller g c =
     let a = g.K.Kind.arith in
     let s = c.args.self.now.shape in
     let n = s.unknowns in
     let p = main_cells n in
     let k = s.moves in
-    let cs = c.loop-pivot.self.cells.now in
+    let cs = c.loop-runner.self.cells.now in
     let ds = c.turn.new.self.cells.now in
-    let w = subst (λ (x : Shape). Turned a (turned a (work_at a cs x.unknowns (main_cells x.unknowns) x.moves)) x.unknowns (main_cells x.unknowns) x.moves cs c.turn.result ds) c.loop-pivot.invariant.shape c.turn.ensures.turned in
-    let e : c.turn.result ≡ Ok None = search rules in
-    let v = subst (λ (r : _). Turned a (turned a (work_at a cs n p k)) n p k cs r ds) e w in
+    let l = c.loop-runner.pivot in
+    let w = subst (λ (x : Shape). Turned a (turned a (work_at a cs x.unknowns (main_cells x.unknowns) x.moves)) l x.unknowns (main_cells x.unknowns) x.moves cs c.turn.result ds) c.loop-runner.invariant.shape c.turn.ensures.turned in
+    let e : c.turn.result ≡ Ok (Some c.in-Some.runner) = search rules in
+    let v = subst (λ (r : _). Turned a (turned a (work_at a cs n p k)) l n p k cs r ds) e w in
     falls a g.met.K.Kind.kept n p k cs ds v.0
 
-pub loop-pivot-preserved : goal.loop-pivot-preserved
-loop-pivot-preserved g c =
+pub loop-runner-preserved : goal.loop-runner-preserved
+loop-runner-preserved g c =
     let a = g.K.Kind.arith in
     let s = c.args.self.now.shape in
     let n = s.unknowns in
     let p = main_cells n in
     let k = s.moves in
-    let cs = c.loop-pivot.self.cells.now in
+    let cs = c.loop-runner.self.cells.now in
     let ds = c.turn.new.self.cells.now in
-    let w = subst (λ (x : Shape). Turned a (turned a (work_at a cs x.unknowns (main_cells x.unknowns) x.moves)) x.unknowns (main_cells x.unknowns) x.moves cs c.turn.result ds) c.loop-pivot.invariant.shape c.turn.ensures.turned in
-    let e : c.turn.result ≡ Ok None = search rules in
-    let v = subst (λ (r : _). Turned a (turned a (work_at a cs n p k)) n p k cs r ds) e w in
+    let l = c.loop-runner.pivot in
+    let w = subst (λ (x : Shape). Turned a (turned a (work_at a cs x.unknowns (main_cells x.unknowns) x.moves)) l x.unknowns (main_cells x.unknowns) x.moves cs c.turn.result ds) c.loop-runner.invariant.shape c.turn.ensures.turned in
+    let e : c.turn.result ≡ Ok (Some c.in-Some.runner) = search rules in
+    let v = subst (λ (r : _). Turned a (turned a (work_at a cs n p k)) l n p k cs r ds) e w in
     record {
-      held = c.turn.ensures.held ∙ c.loop-pivot.invariant.held;
-      shape = c.turn.ensures.shape ∙ c.loop-pivot.invariant.shape;
-      so_far = far_more a g.met.K.Kind.kept n p k c.args.self.now.cells.now cs ds c.loop-pivot.invariant.so_far v.0 v.1;
+      held = c.turn.ensures.held ∙ c.loop-runner.invariant.held;
+      shape = c.turn.ensures.shape ∙ c.loop-runner.invariant.shape;
+      pivot = v.1;
+      so_far = far_more a g.met.K.Kind.kept n p k c.args.self.now.cells.now cs ds c.loop-runner.invariant.so_far v.0 v.2;
     }
 
 pub returns-clause-ended : goal.returns-clause-ended
@@ -45,10 +72,11 @@ returns-clause-ended g c =
     let n = s.unknowns in
     let p = main_cells n in
     let k = s.moves in
-    let cs = c.loop-pivot.self.cells.now in
+    let cs = c.loop-runner.self.cells.now in
     let ds = c.turn.new.self.cells.now in
-    let w = subst (λ (x : Shape). Turned a (turned a (work_at a cs x.unknowns (main_cells x.unknowns) x.moves)) x.unknowns (main_cells x.unknowns) x.moves cs c.turn.result ds) c.loop-pivot.invariant.shape c.turn.ensures.turned in
-    let e : c.turn.result ≡ Ok (Some c.in-Some.pivot) = search rules in
-    let v = subst (λ (r : _). Turned a (turned a (work_at a cs n p k)) n p k cs r ds) e w in
-    subst (λ (x : List g.row.K-Cell.Denot). Ended a n p k c.args.self.now.cells.now (Ok c.in-Some.pivot) x) (sym v.1)
-    (far_stop a g.met.K.Kind.kept n p k c.args.self.now.cells.now cs c.in-Some.pivot c.loop-pivot.invariant.so_far v.0)
+    let l = c.loop-runner.pivot in
+    let w = subst (λ (x : Shape). Turned a (turned a (work_at a cs x.unknowns (main_cells x.unknowns) x.moves)) l x.unknowns (main_cells x.unknowns) x.moves cs c.turn.result ds) c.loop-runner.invariant.shape c.turn.ensures.turned in
+    let e : c.turn.result ≡ Ok None = search rules in
+    let v = subst (λ (r : _). Turned a (turned a (work_at a cs n p k)) l n p k cs r ds) e w in
+    subst (λ (x : List g.row.K-Cell.Denot). Ended a n p k c.args.self.now.cells.now (Ok l) x) (sym v.1)
+    (far_stop a g.met.K.Kind.kept n p k c.args.self.now.cells.now cs l c.loop-runner.invariant.so_far (pivot_below a n p k cs l c.loop-runner.invariant.pivot) v.0)
