@@ -1,58 +1,183 @@
-"""Plants bugs in a copy of the repository: plant.py BUGS COPY [CRATE...]. See run."""
+#!/usr/bin/env python3
+"""Plants bugs in a copy of the repository: plant.py ROOT COPY TABLE [CRATE...]. See run.
+
+Each bug becomes a must-fail edit of the copy, so that the gate's own command says whether the prover refuses it. One that
+the prover lets pass must show in what a program or a test says. TABLE is written anew unless crates are named.
+"""
 import os
 import re
+import shutil
 import subprocess
 import sys
 
+HEAD = """# Planted bugs
 
-def bugs(path):
-    blocks = open(path).read().split("\n\n")
-    for block in blocks:
-        lines = [line for line in block.split("\n") if line and not line.startswith("#")]
-        if lines:
-            crate, name = lines[0].split(": ", 1)
-            file, old, new = (line.split(":", 1)[1][1:] for line in lines[1:4])
-            yield crate, name, file, old, new
+Bugs that were planted one at a time, and where each was refused. The bugs stand in `docs/src/planted/bugs/`, at least one
+for each function of `src/` that has a body, and this page is what `docs/src/planted/run` made of them. Planted in a crate,
+a bug is refused by that crate's own check, with the crates above left out of it; the place is where the first need or
+clause is that could not be proved. Where the check passes, as where a contract cannot say what a program prints, the bug
+must show in a stored output or in a test, and the table says in which.
+"""
 
 
-def refusal(folder):
-    """Where the check refuses the crate, or how its program's output differs; None where nothing is wrong."""
-    run = subprocess.run(["rt", "check"], cwd=folder, capture_output=True, text=True)
-    if run.returncode:
-        where = re.search(r"^(?:note: )?(\S+:\d+:\d+): (?:error|it is not proved|`search`)", run.stdout + run.stderr, re.M)
-        return where.group(1) if where else "see the log"
-    given, expected = f"{folder}/stdin", f"{folder}/stdout"
-    if not os.path.exists(expected):
-        return None
-    with open(given if os.path.exists(given) else os.devnull, "rb") as lines:
-        run = subprocess.run(["rt", "run"], cwd=folder, stdin=lines, capture_output=True)
-    if run.returncode or run.stdout != open(expected, "rb").read():
-        return "the program writes something else"
-    return None
+class Bug:
+    def __init__(self, crate, block):
+        lines = block.split("\n")
+        self.crate, self.what = crate, lines[0]
+        self.edit = "\n".join(lines[1:]) + "\n"
+        self.path = lines[1].removeprefix("file: ")
+        olds = [line.removeprefix("old: ") for line in lines if line.startswith("old: ")]
+        news = [line.removeprefix("new:").removeprefix(" ") for line in lines if line.startswith("new:")]
+        self.pairs = list(zip(olds, news))
+
+    def edited(self, text):
+        """The text with the bug in it; None where the bug does not fit."""
+        for old, new in self.pairs:
+            if text.count(old) != 1:
+                return None
+            text = text.replace(old, new)
+        return text
+
+
+def bugs_of(folder, crate):
+    path = f"{folder}/{crate}.txt"
+    if not os.path.exists(path):
+        return []
+    blocks = [block.strip("\n") for block in open(path).read().split("\n\n")]
+    return [Bug(crate, block) for block in blocks if block and not block.startswith("#")]
+
+
+def functions(path):
+    """The functions of a file that do something: name, first and last line. Tests are left out, and those that only carry
+    a theorem, whose body is 0."""
+    lines, owner, test = open(path).read().split("\n"), "", False
+    for i, line in enumerate(lines):
+        owned = re.match(r"(?:pub )?trait (\w+)", line) or re.match(r"impl\b.*? (?:.*\bfor )?(?:\w+::)*(\w+)(<.*>)? \{", line)
+        owner = owned[1] if owned else owner
+        test = test or line.strip() == "#[test]"
+        found = re.match(r"( *)(?:pub(?:\(\w+\))? )?(?:const |unsafe |extern \"C\" )*fn (\w+)", line)
+        if not found:
+            continue
+        indent, name = found.groups()
+        end = next(j for j in range(i, len(lines)) if lines[j].rstrip() == indent + "}" or lines[j].endswith(";") and
+                   not lines[j].startswith(indent + " ") or lines[j].startswith(indent + "    ensures") and lines[j].endswith("};"))
+        carries = lines[end - 1].strip() == "0"
+        if lines[end].rstrip() == indent + "}" and not test and not carries:
+            yield (f"{owner}::{name}" if indent and owner else name), i, end
+        test = False
+
+
+def place_of(root, bug):
+    """The function that the bug stands in; its file where it stands in none."""
+    path = f"{root}/crates/{bug.crate}/{bug.path}"
+    text = open(path).read()
+    line = text[: text.find(bug.pairs[0][0])].count("\n")
+    if path.endswith(".rt"):
+        for name, first, last in functions(path):
+            if first <= line <= last:
+                return name
+    return bug.path
+
+
+def without_bug(root, crate, named):
+    """The functions of a crate for which there is no bug."""
+    for at, _, files in sorted(os.walk(f"{root}/crates/{crate}/src")):
+        for file in sorted(files):
+            for name, _, _ in functions(f"{at}/{file}") if file.endswith(".rt") else []:
+                if name not in named:
+                    yield name
+
+
+def fitting(root, crate, bugs):
+    for bug in bugs:
+        text = open(f"{root}/crates/{crate}/{bug.path}").read()
+        if bug.edited(text) in (None, text):
+            sys.exit(f"{crate}: {bug.what}: the bug does not fit {bug.path}")
+
+
+def plant(copy, every):
+    """What the gate's command says of each bug, by crate and number."""
+    for crate, bugs in every.items():
+        folder = f"{copy}/crates/{crate}/must-fail"
+        shutil.rmtree(folder, ignore_errors=True)
+        os.mkdir(folder)
+        for number, bug in enumerate(bugs):
+            with open(f"{folder}/{number:03}.edit", "w") as file:
+                file.write(bug.edit)
+    run = subprocess.run(["rt", "must-fail", *every], cwd=copy, capture_output=True, text=True)
+    said = run.stdout + run.stderr
+    with open(f"{copy}/said", "w") as file:
+        file.write(said)
+    return {(m[1], int(m[2])): m[3] for m in re.finditer(r"^(?:rt: )*must-fail (\w+)/(\d+)\.edit: (.*)$", said, re.M)}
+
+
+def shown(copy, bug):
+    """Where a bug that the check lets pass shows: in a program's output, or in a test; None where it does not."""
+    target = f"{copy}/crates/{bug.crate}/{bug.path}"
+    text = open(target).read()
+    with open(target, "w") as file:
+        file.write(bug.edited(text))
+    try:
+        for crate in [bug.crate, "sheet", "walkthrough", "plancheck"]:
+            folder = f"{copy}/crates/{crate}"
+            if os.path.exists(f"{folder}/stdout"):
+                given = f"{folder}/stdin"
+                with open(given if os.path.exists(given) else os.devnull, "rb") as lines:
+                    run = subprocess.run(["rt", "run"], cwd=folder, stdin=lines, capture_output=True)
+                if run.returncode or run.stdout != open(f"{folder}/stdout", "rb").read():
+                    return f"the output of `{crate}`"
+        run = subprocess.run(["rt", "test"], cwd=f"{copy}/crates/cases", capture_output=True)
+        return "a test of `cases`" if run.returncode else None
+    finally:
+        with open(target, "w") as file:
+            file.write(text)
+
+
+def outcome(copy, bug, said):
+    """Where the bug is refused, and whether that counts."""
+    if said is None or "BAD EDIT" in said or "NOT TRIED" in said:
+        return f"**not tried**: {said}", False
+    if "NOT REFUSED" in said:
+        where = shown(copy, bug)
+        return (where, True) if where else ("**nowhere**", False)
+    where = re.search(r"(?:\./)?((?:src|proofs|specs)/[\w/]+\.\w+):(\d+):\d+: ", said)
+    place = f"`{where[1]}:{where[2]}`" if where else "see the log"
+    if "only because a proof file names" in said:
+        return f"{place}, by a name", True
+    return place, True
+
+
+def code(text):
+    return "`" + text.replace("|", "\\|") + "`" if text else "nothing"
 
 
 def main():
-    path, copy, wanted = sys.argv[1], sys.argv[2], sys.argv[3:]
-    survived = tried = 0
-    for crate, name, file, old, new in bugs(path):
-        if wanted and crate not in wanted:
-            continue
-        folder = f"{copy}/crates/{crate}"
-        target = f"{folder}/{file}"
-        text = open(target).read()
-        if text.count(old) != 1:
-            print(f"{crate}: {name}: the bug does not fit its file")
-            survived += 1
-            continue
-        open(target, "w").write(text.replace(old, new))
-        why = refusal(folder)
-        open(target, "w").write(text)
-        tried += 1
-        if why is None:
-            survived += 1
-        print(f"{crate}: {name}: {'SURVIVED' if why is None else f'refused, {why}'}", flush=True)
-    print(f"{tried} planted, {survived} survived")
-    sys.exit(survived != 0)
+    root, copy, table, wanted = sys.argv[1], sys.argv[2], sys.argv[3], sys.argv[4:]
+    crates = [line.split(":")[0].split()[0] for line in open(f"{root}/crates.txt") if ":" in line and line[0] != "#"]
+    crates.remove("cases")
+    every = {crate: bugs_of(f"{root}/docs/src/planted/bugs", crate) for crate in wanted or crates}
+    every = {crate: bugs for crate, bugs in every.items() if bugs}
+    for crate, bugs in every.items():
+        fitting(root, crate, bugs)
+    said = plant(copy, every)
+    text, planted, survived, lacking = [HEAD], 0, 0, []
+    for crate, bugs in every.items():
+        text += [f"\n## {crate}\n", "| function | what the bug does | the edit | refused at |", "| --- | --- | --- | --- |"]
+        places = [place_of(root, bug) for bug in bugs]
+        lacking += [f"{crate}: {name}: no bug" for name in without_bug(root, crate, set(places))]
+        for number, (bug, place) in enumerate(zip(bugs, places)):
+            where, counts = outcome(copy, bug, said.get((crate, number)))
+            planted += 1
+            survived += not counts
+            print(f"{crate}: {place}: {bug.what}: {where}", flush=True)
+            edits = "; ".join(f"{code(old)} → {code(new)}" for old, new in bug.pairs)
+            text.append(f"| `{place}` | {bug.what} | {edits} | {where} |")
+    print("\n".join([*lacking, f"{planted} planted, {survived} survived, {len(lacking)} functions without a bug"]))
+    text.insert(1, f"\n{planted} were planted; {survived or 'none'} survived.\n")
+    if not wanted:
+        with open(table, "w") as file:
+            file.write("\n".join(text).replace("\n\n\n", "\n\n") + "\n")
+    sys.exit(survived != 0 or len(lacking) != 0)
 
 
 main()
