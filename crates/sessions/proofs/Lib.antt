@@ -1,4 +1,5 @@
 pub mod Lawful
 pub mod Placing
 pub mod Replies
+pub mod Thirteen
 pub mod Wiping
