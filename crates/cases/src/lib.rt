@@ -5,6 +5,8 @@
 #[cfg(test)]
 mod kinds_cases;
 #[cfg(test)]
+mod lent_cases;
+#[cfg(test)]
 mod lines_cases;
 #[cfg(test)]
 mod sessions_cases;
