@@ -5,8 +5,9 @@ use Rattle.kinds.specs.Equation.{Equation}
 use Rattle.plans.specs.Solution.{Holds}
 use Rattle.sheets.specs.Cells.{contents_in}
 use Rattle.sheets.specs.Clearing.{clear_left}
-use Rattle.sheets.specs.Law.{StandsFor, Sound}
-use Rattle.sheets.specs.Sheet.{Model, post_left}
+use Rattle.sheets.specs.Law.{StandsFor, Sound, SpareZero}
+use Rattle.sheets.specs.Sheet.{Model, model_of, post_left}
+use Rattle.sheets.specs.declared.shape.Outline.{Outline}
 use Rattle.runs.specs.declared.call.Step.{Step}
 use Rattle.runs.specs.Calls.{Answered, Called, posting, clearing, picking, showing, calls_in, answers_in, pairs_in}
 use Rattle.runs.specs.Laws.{CallLaw, CallsLaw}
@@ -24,10 +25,11 @@ none_is_some : {X : Type 0} {x : X} {xs : List X} → [] ≡ x ∷ xs → ⊥
 none_is_some e = absurd cc
 
 module _ {N C : Type 0} (a : Arithmetic N C) where
-  -- the sheet m has n unknowns, is sound, and stands for the equations es
+  -- the sheet m has n unknowns, its cells pass their checks and the spare ones hold zero, and it stands for the equations es
   pub record Keeps (n : ℕ) (es : List Equation) (m : Model C) : Type 0 where
     pub unknowns : m.unknowns ≡ n
     pub sound : Sound a m
+    pub spare : SpareZero a m
     pub holds : Holds a n es (contents_in a n m.moves m.cells)
 
   stands_for : {n : ℕ} {es : List Equation} {m : Model C} → Keeps n es m → StandsFor a m es
@@ -38,11 +40,11 @@ module _ {N C : Type 0} (a : Arithmetic N C) where
   call_keeps s (posting ws) law n es k =
       let m = s.sheet in
       let K : ℕ → Type 0 = λ x. Keeps x (after_call x (posting ws) (answer_to a s (posting ws)) es) (post_left a m ws) in
-      subst K k.unknowns (record { unknowns = law.law.unknowns; sound = law.sound k.sound; holds = left_holds a m ws law es k.sound (stands_for k) })
+      subst K k.unknowns (record { unknowns = law.law.unknowns; sound = law.sound k.sound; spare = law.spare k.spare; holds = left_holds a m ws law es k.sound (stands_for k) })
   call_keeps s clearing law n es k =
       let m = s.sheet in
       let K : ℕ → Type 0 = λ x. Keeps x (after_call x clearing (answer_to a s clearing) es) (clear_left a m) in
-      subst K k.unknowns (record { unknowns = law.law.unknowns; sound = law.sound k.sound; holds = cleared_holds a m law es (stands_for k) })
+      subst K k.unknowns (record { unknowns = law.law.unknowns; sound = law.sound k.sound; spare = law.spare k.spare; holds = cleared_holds a m law es (stands_for k) })
   call_keeps s (picking choice) law n es k = k
   call_keeps s showing law n es k = k
 
@@ -61,6 +63,15 @@ module _ {N C : Type 0} (a : Arithmetic N C) where
       Keeps n (in_force_from n es (paired s cs)) (left a s cs).sheet
   run_keeps n es s [] laws k = k
   run_keeps n es s (c ∷ cs) laws k = run_keeps n (after_call n c (answer_to a s c) es) (left_by a s c) cs laws.1 (call_keeps s c laws.0 n es k)
+
+  -- and every cell that it needs passes its check, and the spare ones hold zero
+  pub sound_kept : (n : ℕ) (s : State C) (cs : List Called) → Keeps n [] s.sheet → CallsLaw a s cs → (cells : List C) (o : Outline) → model_of cells o ≡ (left a s cs).sheet →
+      Sound a (model_of cells o)
+  sound_kept n s cs k laws cells o e = subst (Sound a) (sym e) (run_keeps n [] s cs laws k).sound
+
+  pub spare_kept : (n : ℕ) (s : State C) (cs : List Called) → Keeps n [] s.sheet → CallsLaw a s cs → (cells : List C) (o : Outline) → model_of cells o ≡ (left a s cs).sheet →
+      SpareZero a (model_of cells o)
+  spare_kept n s cs k laws cells o e = subst (SpareZero a) (sym e) (run_keeps n [] s cs laws k).spare
 
   -- every posting among them is rightly answered
   posting_at : (n : ℕ) (es : List Equation) (s : State C) (cs : List Called) → CallsLaw a s cs → Keeps n es s.sheet →

@@ -1,5 +1,6 @@
 // Running any list of calls on a sheet, from its opening on.
 ghost use Rattle.std.specs.Prelude.{◌≡◌};
+ghost use Rattle.sheets.specs.Law.{Sound, SpareZero};
 ghost use Rattle.sheets.specs.Sheet.{model_of};
 ghost use Rattle.lines.specs.Page.{model as page_model};
 ghost use Rattle.runs.specs.Calls.{called, calls_in, answers_in, pairs_in};
@@ -76,6 +77,8 @@ pub fn run<K: Kind>(
     ensures calls { calls_in steps.new ≡ calls_in steps.old }
     ensures answers { answers_in steps.new ≡ answers_to K.Kind.arith (begun K.Kind.arith unknowns list cells.old plan.old (page_model page.old)) (calls_in steps.old) }
     ensures left { state_of cells.new result plan.new page.new ≡ left_behind K.Kind.arith (begun K.Kind.arith unknowns list cells.old plan.old (page_model page.old)) (calls_in steps.old) }
+    ensures sound { Sound K.Kind.arith (model_of cells.new result) }
+    ensures spare { SpareZero K.Kind.arith (model_of cells.new result) }
     ensures promise { Promise K.Kind.arith (begun K.Kind.arith unknowns list cells.old plan.old (page_model page.old)) (pairs_in steps.new) (model_of cells.new result) }
 {
     let mut sheet = Sheet::<K>::open(cells, unknowns, list);

@@ -1,5 +1,5 @@
 use Rattle.std.proofs.Common.{sym, subst, subst₂}
-use Rattle.sheets.proofs.OneStep.{clear_law, clear_sound}
+use Rattle.sheets.proofs.OneStep.{clear_law, clear_sound, clear_spare}
 use Rattle.runs.specs.Calls.{called}
 use Rattle.runs.specs.Laws.{PostingLaw, CallLaw}
 use Rattle.runs.specs.Run.{state}
@@ -12,11 +12,11 @@ returns-in-Post-clause-law g c =
     let s = state c.args.sheet.now c.args.plan.now c.args.page.now in
     let posted = c.post.ensures in
     subst (λ (x : Call). CallLaw a s (called x)) (sym c.in-Post.is)
-    (subst₂ (PostingLaw a s.sheet c.in-Post.words.now) posted.answer posted.left (record { refusals = posted.refusals; law = posted.law; sound = posted.sound }))
+    (subst₂ (PostingLaw a s.sheet c.in-Post.words.now) posted.answer posted.left (record { refusals = posted.refusals; law = posted.law; sound = posted.sound; spare = posted.spare }))
 
 pub returns-in-Clear-clause-law : goal.returns-in-Clear-clause-law
 returns-in-Clear-clause-law g c =
     let a = g.K.Kind.arith in
     let kind = g.met.K.Kind.kept in
     let s = state c.args.sheet.now c.args.plan.now c.args.page.now in
-    subst (λ (x : Call). CallLaw a s (called x)) (sym c.in-Clear.is) (record { law = clear_law a kind s.sheet; sound = clear_sound a kind s.sheet })
+    subst (λ (x : Call). CallLaw a s (called x)) (sym c.in-Clear.is) (record { law = clear_law a kind s.sheet; sound = clear_sound a kind s.sheet; spare = clear_spare a kind s.sheet })
