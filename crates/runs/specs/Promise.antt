@@ -1,4 +1,5 @@
--- The promise of a run: what its calls put in force, what the cells then stand for, and what each posting is answered. Assumes nothing.
+-- The promise of a run: what its calls put in force, what the cells then stand for, what each posting is answered, and
+-- which plans are picked. Assumes nothing.
 use Rattle.std.specs.Prelude.{◌≡◌, ℕ, ◌+◌, ◌↔◌, List, [], ◌∷◌, ◌++◌, map, length, ℤ, Ok, Err}
 use Rattle.std.specs.List.{AllByRecursion}
 use Rattle.faults.specs.declared.NumberFault.TheVariants.{NotAdmitted}
@@ -6,13 +7,13 @@ use Rattle.faults.specs.declared.SheetFault.TheVariants.{Number, NoSheet, Count,
 use Rattle.kinds.specs.Kind.{Arithmetic, Admitted}
 use Rattle.kinds.specs.Equation.{Equation}
 use Rattle.plans.specs.Posting.{overflow}
-use Rattle.plans.specs.Solution.{Judgement, is_taken, is_implied, is_contradicted, Verdict, Holds}
+use Rattle.plans.specs.Solution.{SameLists, MeetsAll, made, Judgement, is_taken, is_implied, is_contradicted, Verdict, Holds}
 use Rattle.sheets.specs.Cells.{contents_in}
-use Rattle.sheets.specs.Law.{equation_of, FirstRefused}
+use Rattle.sheets.specs.Law.{equation_of, contents_of, FirstRefused}
 use Rattle.sheets.specs.Sheet.{Model, outcome_of}
 use Rattle.runs.specs.declared.call.Success.TheVariants.{Done, Implied}
 use Rattle.runs.specs.Calls.{Answered, Called, posting, clearing, picking, showing}
-use Rattle.runs.specs.Run.{State, left}
+use Rattle.runs.specs.Run.{State, left_by, left}
 
 -- at the opening no equation is in force
 abbrev pub at_opening : List Equation
@@ -70,6 +71,20 @@ module _ {N C : Type 0} (a : Arithmetic N C) where
   abbrev pub sheet_before : State C → List (Called × Answered) → Model C
   sheet_before s calls = (left a s (map (λ call. call.0) calls)).sheet
 
+  -- the plan's words behind a picking, the calls made before it being these
+  abbrev pub plan_after : State C → List (Called × Answered) → List ℤ → List ℤ
+  plan_after s calls choice = (left_by a (left a s (map (λ call. call.0) calls)) (picking choice)).plan
+
+  -- the words `plan` are rightly those of the choice, picked from the sheet m of n unknowns with es in force
+  pub record RightlyPicked (n : ℕ) (es : List Equation) (m : Model C) (choice plan : List ℤ) : Type 0 where
+    -- the choice has a number for each move, and the plan one for each unknown
+    pub choice_length : length choice ≡ m.moves
+    pub plan_length : length plan ≡ n
+    -- the plan meets every equation in force
+    pub meets : MeetsAll a.modulus es plan
+    -- and is the one that the choice makes out of the fixed plan and the moves, number by number
+    pub is_made : SameLists a.modulus plan (made (map a.means (contents_of a m).fixed) (map (map a.means) (contents_of a m).moves) choice)
+
   -- THE PROMISE, for the calls made from the state s on, where a sheet was opened, with the answers that they got, and the sheet m that they left
   pub record Promise (s : State C) (calls : List (Called × Answered)) (m : Model C) : Type 0 where
     -- the sheet keeps the unknowns that it was opened with
@@ -80,3 +95,21 @@ module _ {N C : Type 0} (a : Arithmetic N C) where
     -- (b) every posting, wherever it stands in the list, is rightly answered, by the equations in force before it
     pub postings : (before behind : List (Called × Answered)) (ws : List ℤ) (r : Answered) → calls ≡ before ++ ((posting ws, r) ∷ behind) →
         RightlyAnswered m.unknowns (in_force m.unknowns before) (sheet_before s before) ws r
+    -- (c) every plan that is picked, wherever in the list, is that of its choice and meets every equation in force
+    -- before it; its words are told by the calls' definitions, since a later picking writes over them: PlanLeft tells
+    -- of those really left
+    pub pickings : (before behind : List (Called × Answered)) (choice : List ℤ) → calls ≡ before ++ ((picking choice, Ok Done) ∷ behind) →
+        RightlyPicked m.unknowns (in_force m.unknowns before) (sheet_before s before) choice (plan_after s before choice)
+
+  -- none of the calls is a picking that is done
+  abbrev pub NonePicked : List (Called × Answered) → Type 0
+  NonePicked calls = AllByRecursion (λ call. (choice : List ℤ) → ¬ (call ≡ (picking choice, Ok Done))) calls
+
+  -- THE PROMISE OF THE PLAN'S WORDS that the calls made from the state s on really left; a run leaves those of its last
+  -- picking alone, but any picking is the last of the run that ends with it
+  pub record PlanLeft (s : State C) (calls : List (Called × Answered)) (plan : List ℤ) : Type 0 where
+    -- they are rightly those of the last picking that is done, whatever calls are made behind it
+    pub picked : (before behind : List (Called × Answered)) (choice : List ℤ) → calls ≡ before ++ ((picking choice, Ok Done) ∷ behind) → NonePicked behind →
+        RightlyPicked s.sheet.unknowns (in_force s.sheet.unknowns before) (sheet_before s before) choice plan
+    -- where none is done they are as they were
+    pub kept : NonePicked calls → plan ≡ s.plan

@@ -6,7 +6,7 @@ ghost use Rattle.lines.specs.Page.{model as page_model};
 ghost use Rattle.runs.specs.Calls.{called, calls_in, answers_in, pairs_in};
 ghost use Rattle.runs.specs.Run.{state, state_of, answer_to, left_by, answers as answers_to, left as left_behind, begun};
 ghost use Rattle.runs.specs.Laws.{CallLaw, CallsLaw};
-ghost use Rattle.runs.specs.Promise.{Promise};
+ghost use Rattle.runs.specs.Promise.{Promise, PlanLeft};
 
 use crate::call::{Answer, Call, Step, Success};
 use kinds::kind::Kind;
@@ -80,6 +80,7 @@ pub fn run<K: Kind>(
     ensures sound { Sound K.Kind.arith (model_of cells.new result) }
     ensures spare { SpareZero K.Kind.arith (model_of cells.new result) }
     ensures promise { Promise K.Kind.arith (begun K.Kind.arith unknowns list cells.old plan.old (page_model page.old)) (pairs_in steps.new) (model_of cells.new result) }
+    ensures plan_left { PlanLeft K.Kind.arith (begun K.Kind.arith unknowns list cells.old plan.old (page_model page.old)) (pairs_in steps.new) plan.new }
 {
     let mut sheet = Sheet::<K>::open(cells, unknowns, list);
     make_steps(&mut sheet, steps, plan, page);

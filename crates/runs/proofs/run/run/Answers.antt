@@ -4,7 +4,7 @@ use Rattle.sheets.proofs.OneStep.{open_law, open_sound, open_spare}
 use Rattle.runs.specs.Calls.{calls_in, answers_in}
 use Rattle.runs.specs.Laws.{CallsLaw}
 use Rattle.runs.specs.Run.{begun, answers}
-use Rattle.runs.proofs.Kept.{Keeps, sound_kept, spare_kept, promise_kept}
+use Rattle.runs.proofs.Kept.{Keeps, sound_kept, spare_kept, promise_kept, plan_kept}
 use Rattle.runs.proofs.run.run.Goals as goal
 
 pub returns : goal.returns
@@ -28,4 +28,5 @@ returns g c =
       sound = sound_kept a s.sheet.unknowns s calls opening laws _ c.outline.result (search rules);
       spare = spare_kept a s.sheet.unknowns s calls opening laws _ c.outline.result (search rules);
       promise = promise_kept a s.sheet.unknowns s calls opening laws steps _ c.make_steps.ensures.calls answered (search rules);
+      plan_left = plan_kept a s calls opening laws steps _ c.make_steps.ensures.calls answered (search rules);
     }
