@@ -1,4 +1,6 @@
 pub mod Lawful
+pub mod Opening
+pub mod Picks
 pub mod Placing
 pub mod Replies
 pub mod Wiping
