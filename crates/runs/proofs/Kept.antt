@@ -79,7 +79,7 @@ module _ {N C : Type 0} (a : Arithmetic N C) where
       }
 
   -- calls made from the state s on, with their answers
-  abbrev paired : State C → List Called → List (Called × Answered)
+  abbrev pub paired : State C → List Called → List (Called × Answered)
   paired s [] = []
   paired s (c ∷ cs) = (c, answer_to a s c) ∷ paired (left_by a s c) cs
 
@@ -180,32 +180,31 @@ module _ {N C : Type 0} (a : Arithmetic N C) where
       ap (λ (x : Called). (x, step.answer) ∷ pairs_in steps) (first_same e) ∙ ap (λ (x : Answered). (c, x) ∷ pairs_in steps) (first_same f)
       ∙ ap (λ (ps : List (Called × Answered)). (c, answer_to a s c) ∷ ps) (pairs_made (left_by a s c) steps cs (rest_same e) (rest_same f))
 
-  -- the promise, of the calls and answers that the steps hold and of the sheet that is left
-  pub promise_kept : (n : ℕ) (s : State C) (cs : List Called) → Keeps n [] s.sheet → CallsLaw a s cs → (steps : List Step) (m : Model C) →
-      calls_in steps ≡ cs → answers_in steps ≡ answers a s cs → m ≡ (left a s cs).sheet → Promise a s (pairs_in steps) m
-  promise_kept n s cs k laws steps m e f g =
-      let pairs : pairs_in steps ≡ paired s cs = pairs_made s steps cs e f in
-      let K : List (Called × Answered) → Model C → Type 0 = λ ps x. Keeps n (in_force_from n [] ps) x in
-      let kept : K (pairs_in steps) m = subst₂ K (sym pairs) (sym g) (run_keeps n [] s cs laws k) in
-      let G : ℕ → Type 0 = λ x. Holds a x (in_force_from x [] (pairs_in steps)) (contents_in a x m.moves m.cells) in
+  -- the promise, of the calls made from the state s on, their answers and the sheet that they leave
+  pub calls_promised : (n : ℕ) (s : State C) (cs : List Called) → Keeps n [] s.sheet → CallsLaw a s cs → Promise a s (paired s cs) (left a s cs).sheet
+  calls_promised n s cs k laws =
+      let m = (left a s cs).sheet in
+      let kept : Keeps n (in_force_from n [] (paired s cs)) m = run_keeps n [] s cs laws k in
+      let G : ℕ → Type 0 = λ x. Holds a x (in_force_from x [] (paired s cs)) (contents_in a x m.moves m.cells) in
       let R : List (Called × Answered) → List ℤ → Answered → ℕ → Type 0 = λ before ws r x. RightlyAnswered a x (in_force x before) (sheet_before a s before) ws r in
       let P : List (Called × Answered) → List ℤ → ℕ → Type 0 = λ before choice x. RightlyPicked a x (in_force x before) (sheet_before a s before) choice (plan_after a s before choice) in
       let n_is : n ≡ m.unknowns = sym kept.unknowns in
       record {
         unknowns = kept.unknowns ∙ sym k.unknowns;
         general = subst G n_is kept.holds;
-        postings = λ before behind ws r at. subst (R before ws r) n_is (posting_at n s cs laws k before behind ws r (sym pairs ∙ at));
-        pickings = λ before behind choice at. subst (P before choice) n_is (picking_at n s cs laws k before behind choice (sym pairs ∙ at));
+        postings = λ before behind ws r at. subst (R before ws r) n_is (posting_at n s cs laws k before behind ws r at);
+        pickings = λ before behind choice at. subst (P before choice) n_is (picking_at n s cs laws k before behind choice at);
       }
 
-  -- and of the plan's words that are left
+  -- and of the calls and answers that the steps hold and of the sheet that is left
+  pub promise_kept : (n : ℕ) (s : State C) (cs : List Called) → Keeps n [] s.sheet → CallsLaw a s cs → (steps : List Step) (m : Model C) →
+      calls_in steps ≡ cs → answers_in steps ≡ answers a s cs → m ≡ (left a s cs).sheet → Promise a s (pairs_in steps) m
+  promise_kept n s cs k laws steps m e f g = subst₂ (Promise a s) (sym (pairs_made s steps cs e f)) (sym g) (calls_promised n s cs k laws)
+
+  -- the same of the plan's words
+  pub calls_leave_plan : (s : State C) (cs : List Called) → Keeps s.sheet.unknowns [] s.sheet → CallsLaw a s cs → PlanLeft a s (paired s cs) (left a s cs).plan
+  calls_leave_plan s cs k laws = record { picked = last_picked s.sheet.unknowns s cs laws k; kept = plan_stays s cs }
+
   pub plan_kept : (s : State C) (cs : List Called) → Keeps s.sheet.unknowns [] s.sheet → CallsLaw a s cs → (steps : List Step) (plan : List ℤ) →
       calls_in steps ≡ cs → answers_in steps ≡ answers a s cs → plan ≡ (left a s cs).plan → PlanLeft a s (pairs_in steps) plan
-  plan_kept s cs k laws steps plan e f g =
-      let n = s.sheet.unknowns in
-      let pairs : pairs_in steps ≡ paired s cs = pairs_made s steps cs e f in
-      record {
-        picked = λ before behind choice at none.
-        subst (RightlyPicked a n (in_force n before) (sheet_before a s before) choice) (sym g) (last_picked n s cs laws k before behind choice (sym pairs ∙ at) none);
-        kept = λ none. g ∙ plan_stays s cs (subst (NonePicked a) pairs none);
-      }
+  plan_kept s cs k laws steps plan e f g = subst₂ (PlanLeft a s) (sym (pairs_made s steps cs e f)) (sym g) (calls_leave_plan s cs k laws)

@@ -75,8 +75,8 @@ pub record OpenedAs (ws : List ℤ) (after : View) : Type 0 where
   -- so it is on a sheet
   pub has_unknowns : ¬ (unknowns_of after ≡ 0)
 
--- a frame with the numbers ws is answered r and leaves the session `after`: whatever equations the session's sheet stands
--- for, it stands for those in force afterwards, and the answer to an equation says which plans meet it
+-- a frame with the numbers ws is answered r and leaves the session `after`: whatever equations the session's sheet
+-- stands for, it stands for those in force afterwards, and the answer to an equation says which plans meet it
 pub record FrameLaw (v : View) (frame : Frame) (ws : List ℤ) (r : Result Done SheetFault) (after : View) : Type 0 where
   -- but for an opening that is done, the sheet keeps its kind and its unknowns
   pub kept : ¬ (r ≡ Ok Opened) → (modulus_of after ≡ modulus_of v) × (unknowns_of after ≡ unknowns_of v)
