@@ -3,11 +3,11 @@ use Rattle.std.proofs.Common.{◌≡◌, ℕ, List, [], ◌∷◌, ◌++◌, map
 use Rattle.faults.specs.declared.SheetFault.{SheetFault}
 use Rattle.kinds.specs.Kind.{Arithmetic}
 use Rattle.kinds.specs.Equation.{Equation}
-use Rattle.plans.specs.Solution.{Holds}
+use Rattle.plans.specs.Solution.{MeetsAll, Holds}
 use Rattle.sheets.specs.Cells.{contents_in}
 use Rattle.sheets.specs.Clearing.{clear_left}
 use Rattle.sheets.specs.Law.{StandsFor, Sound, SpareZero}
-use Rattle.sheets.specs.Picking.{pick_refusal_lem, plan_in, pick_unless, words_unless, pick_answer}
+use Rattle.sheets.specs.Picking.{pick_refusal_lem, plan_in, pick_unless, pick_answer}
 use Rattle.sheets.specs.Sheet.{Model, model_of, post_left}
 use Rattle.sheets.proofs.Refusals.{pickable}
 use Rattle.sheets.specs.declared.shape.Outline.{Outline}
@@ -16,8 +16,9 @@ use Rattle.runs.specs.declared.call.Success.TheVariants.{Done}
 use Rattle.runs.specs.Calls.{Answered, Called, posting, clearing, picking, showing, plain_answer, calls_in, answers_in, pairs_in}
 use Rattle.runs.specs.Laws.{CallLaw, CallsLaw}
 use Rattle.runs.specs.Run.{State, answer_to, left_by, answers, left}
-use Rattle.runs.specs.Promise.{after_call, in_force_from, in_force, RightlyAnswered, sheet_before, plan_after, RightlyPicked, Promise, NonePicked, PlanLeft}
+use Rattle.runs.specs.Promise.{after_call, in_force_from, in_force, RightlyAnswered, sheet_before, plan_after, RightlyPicked, Promise, AllKeepPlan, AllKeepSheet, PlanLeft}
 use Rattle.runs.proofs.Rightly.{rightly, left_holds, cleared_holds}
+use Rattle.runs.proofs.Staying.{posting_stays, clearing_stays, words_stay}
 
 first_same : {X : Type 0} {x y : X} {xs ys : List X} → x ∷ xs ≡ y ∷ ys → x ≡ y
 first_same e = cc
@@ -83,22 +84,25 @@ module _ {N C : Type 0} (a : Arithmetic N C) where
   paired s [] = []
   paired s (c ∷ cs) = (c, answer_to a s c) ∷ paired (left_by a s c) cs
 
-  -- a picking that is not done keeps the plan's words, and so do the other calls
-  words_stay : (s : State C) (choice : List ℤ) → ¬ (answer_to a s (picking choice) ≡ Ok Done) → (left_by a s (picking choice)).plan ≡ s.plan
-  words_stay s choice not_done = by (pick_refusal_lem a s.sheet choice (length s.plan)) (plan_in a s.sheet choice) not_done
-    where
-      by : (o : Option SheetFault) (p : Option (List N)) → ¬ (plain_answer (pick_unless a o p) ≡ Ok Done) → words_unless a o p s.plan ≡ s.plan
-      by (Some fault) p not_done = refl
-      by None None not_done = refl
-      by None (Some xs) not_done = absurd (not_done refl)
+  -- calls that write no plan keep the plan's words
+  plan_stays : (s : State C) (cs : List Called) → AllKeepPlan (paired s cs) → (left a s cs).plan ≡ s.plan
+  plan_stays s [] keep = refl
+  plan_stays s (posting ws ∷ cs) keep = plan_stays (left_by a s (posting ws)) cs keep.1
+  plan_stays s (clearing ∷ cs) keep = plan_stays (left_by a s clearing) cs keep.1
+  plan_stays s (picking choice ∷ cs) keep = plan_stays (left_by a s (picking choice)) cs keep.1 ∙ words_stay a s.sheet choice s.plan keep.0
+  plan_stays s (showing ∷ cs) keep = plan_stays (left_by a s showing) cs keep.1
 
-  plan_stays : (s : State C) (cs : List Called) → NonePicked a (paired s cs) → (left a s cs).plan ≡ s.plan
-  plan_stays s [] none = refl
-  plan_stays s (posting ws ∷ cs) none = plan_stays (left_by a s (posting ws)) cs none.1
-  plan_stays s (clearing ∷ cs) none = plan_stays (left_by a s clearing) cs none.1
-  plan_stays s (picking choice ∷ cs) none =
-      plan_stays (left_by a s (picking choice)) cs none.1 ∙ words_stay s choice (λ e. none.0 choice (ap (λ (r : Answered). (picking choice, r)) e))
-  plan_stays s (showing ∷ cs) none = plan_stays (left_by a s showing) cs none.1
+  -- and calls that keep the fixed plan and the moves keep the sheet
+  sheet_stays : (n : ℕ) (es : List Equation) (s : State C) (cs : List Called) → CallsLaw a s cs → Keeps n es s.sheet → AllKeepSheet (paired s cs) → (left a s cs).sheet ≡ s.sheet
+  sheet_stays n es s [] laws k keep = refl
+  sheet_stays n es s (posting ws ∷ cs) laws k keep =
+      sheet_stays n (after_call n (posting ws) (answer_to a s (posting ws)) es) (left_by a s (posting ws)) cs laws.1 (call_keeps s (posting ws) laws.0 n es k) keep.1
+      ∙ posting_stays a s.sheet ws k.spare keep.0
+  sheet_stays n es s (clearing ∷ cs) laws k keep =
+      sheet_stays n (after_call n clearing (answer_to a s clearing) es) (left_by a s clearing) cs laws.1 (call_keeps s clearing laws.0 n es k) keep.1
+      ∙ clearing_stays a s.sheet keep.0
+  sheet_stays n es s (picking choice ∷ cs) laws k keep = sheet_stays n es (left_by a s (picking choice)) cs laws.1 k keep.1
+  sheet_stays n es s (showing ∷ cs) laws k keep = sheet_stays n es (left_by a s showing) cs laws.1 k keep.1
 
   -- after any list of calls the sheet stands for the equations in force
   run_keeps : (n : ℕ) (es : List Equation) (s : State C) (cs : List Called) → CallsLaw a s cs → Keeps n es s.sheet →
@@ -121,6 +125,7 @@ module _ {N C : Type 0} (a : Arithmetic N C) where
     keeps : Keeps n es t.sheet
     answer : answer_to a t c ≡ r
     rest : List Called
+    laws : CallsLaw a (left_by a t c) rest
     pairs : paired (left_by a t c) rest ≡ behind
     ends : left a (left_by a t c) rest ≡ last
 
@@ -136,6 +141,7 @@ module _ {N C : Type 0} (a : Arithmetic N C) where
         keeps = k;
         answer = ap (answer_to a s) (sym here) ∙ ap (λ (p : Called × Answered). p.1) (first_same e);
         rest = cs;
+        laws = subst (λ (x : Called). CallsLaw a (left_by a s x) cs) here laws.1;
         pairs = ap (λ (x : Called). paired (left_by a s x) cs) (sym here) ∙ rest_same e;
         ends = ap (λ (x : Called). left a (left_by a s x) cs) (sym here);
       }
@@ -161,15 +167,25 @@ module _ {N C : Type 0} (a : Arithmetic N C) where
       let at = reached n [] s cs laws k before behind (picking choice) (Ok Done) e in
       picking_right (left a s (map (λ call. call.0) before)) choice at.law n (in_force n before) at.keeps at.answer
 
-  -- and stays in the plan's words while none is picked behind it
+  -- and the last of them is in the plan's words at the end, picked from the sheet at the end where that is kept
   last_picked : (n : ℕ) (s : State C) (cs : List Called) → CallsLaw a s cs → Keeps n [] s.sheet →
-      (before behind : List (Called × Answered)) (choice : List ℤ) → paired s cs ≡ before ++ ((picking choice, Ok Done) ∷ behind) → NonePicked a behind →
+      (before behind : List (Called × Answered)) (choice : List ℤ) → paired s cs ≡ before ++ ((picking choice, Ok Done) ∷ behind) → AllKeepPlan behind →
       RightlyPicked a n (in_force n before) (sheet_before a s before) choice (left a s cs).plan
-  last_picked n s cs laws k before behind choice e none =
+  last_picked n s cs laws k before behind choice e keep =
       let at = reached n [] s cs laws k before behind (picking choice) (Ok Done) e in
       let t = left_by a (left a s (map (λ call. call.0) before)) (picking choice) in
-      let stays : t.plan ≡ (left a s cs).plan = sym (plan_stays t at.rest (subst (NonePicked a) (sym at.pairs) none)) ∙ ap (λ (u : State C). u.plan) at.ends in
+      let stays : t.plan ≡ (left a s cs).plan = sym (plan_stays t at.rest (subst AllKeepPlan (sym at.pairs) keep)) ∙ ap (λ (u : State C). u.plan) at.ends in
       subst (RightlyPicked a n (in_force n before) (sheet_before a s before) choice) stays (picking_at n s cs laws k before behind choice e)
+
+  last_made : (n : ℕ) (s : State C) (cs : List Called) → CallsLaw a s cs → Keeps n [] s.sheet →
+      (before behind : List (Called × Answered)) (choice : List ℤ) → paired s cs ≡ before ++ ((picking choice, Ok Done) ∷ behind) → AllKeepPlan behind → AllKeepSheet behind →
+      RightlyPicked a n (in_force n before) (left a s cs).sheet choice (left a s cs).plan
+  last_made n s cs laws k before behind choice e keep keep_sheet =
+      let at = reached n [] s cs laws k before behind (picking choice) (Ok Done) e in
+      let t = left_by a (left a s (map (λ call. call.0) before)) (picking choice) in
+      let stays : t.sheet ≡ (left a s cs).sheet =
+      sym (sheet_stays n (in_force n before) t at.rest at.laws at.keeps (subst AllKeepSheet (sym at.pairs) keep_sheet)) ∙ ap (λ (u : State C). u.sheet) at.ends in
+      subst (λ (m : Model C). RightlyPicked a n (in_force n before) m choice (left a s cs).plan) stays (last_picked n s cs laws k before behind choice e keep)
 
   -- the steps hold the calls that were made, and the answers that they got
   pairs_made : (s : State C) (steps : List Step) (cs : List Called) → calls_in steps ≡ cs → answers_in steps ≡ answers a s cs → pairs_in steps ≡ paired s cs
@@ -202,9 +218,22 @@ module _ {N C : Type 0} (a : Arithmetic N C) where
   promise_kept n s cs k laws steps m e f g = subst₂ (Promise a s) (sym (pairs_made s steps cs e f)) (sym g) (calls_promised n s cs k laws)
 
   -- the same of the plan's words
-  pub calls_leave_plan : (s : State C) (cs : List Called) → Keeps s.sheet.unknowns [] s.sheet → CallsLaw a s cs → PlanLeft a s (paired s cs) (left a s cs).plan
-  calls_leave_plan s cs k laws = record { picked = last_picked s.sheet.unknowns s cs laws k; kept = plan_stays s cs }
+  pub calls_leave_plan : (n : ℕ) (s : State C) (cs : List Called) → Keeps n [] s.sheet → CallsLaw a s cs → PlanLeft a s (paired s cs) (left a s cs).sheet (left a s cs).plan
+  calls_leave_plan n s cs k laws =
+      let m = (left a s cs).sheet in
+      let plan = (left a s cs).plan in
+      let n_is : n ≡ m.unknowns = sym (run_keeps n [] s cs laws k).unknowns in
+      let M : List (Called × Answered) → ℕ → Type 0 = λ before x. (length plan ≡ x) × MeetsAll a.modulus (in_force x before) plan in
+      let P : List (Called × Answered) → List ℤ → ℕ → Type 0 = λ before choice x. RightlyPicked a x (in_force x before) m choice plan in
+      record {
+        meets = λ before behind choice at keep. subst (M before) n_is (let r = last_picked n s cs laws k before behind choice at keep in (r.plan_length, r.meets));
+        is_made = λ before behind choice at keep keep_sheet. subst (P before choice) n_is (last_made n s cs laws k before behind choice at keep keep_sheet);
+        kept = plan_stays s cs;
+      }
 
-  pub plan_kept : (s : State C) (cs : List Called) → Keeps s.sheet.unknowns [] s.sheet → CallsLaw a s cs → (steps : List Step) (plan : List ℤ) →
-      calls_in steps ≡ cs → answers_in steps ≡ answers a s cs → plan ≡ (left a s cs).plan → PlanLeft a s (pairs_in steps) plan
-  plan_kept s cs k laws steps plan e f g = subst₂ (PlanLeft a s) (sym (pairs_made s steps cs e f)) (sym g) (calls_leave_plan s cs k laws)
+  pub plan_kept : (n : ℕ) (s : State C) (cs : List Called) → Keeps n [] s.sheet → CallsLaw a s cs → (steps : List Step) (m : Model C) (plan : List ℤ) →
+      calls_in steps ≡ cs → answers_in steps ≡ answers a s cs → m ≡ (left a s cs).sheet → plan ≡ (left a s cs).plan → PlanLeft a s (pairs_in steps) m plan
+  plan_kept n s cs k laws steps m plan e f g h =
+      let pairs = pairs_made s steps cs e f in
+      let left_plan : PlanLeft a s (paired s cs) m plan = subst₂ (PlanLeft a s (paired s cs)) (sym g) (sym h) (calls_leave_plan n s cs k laws) in
+      subst (λ (ps : List (Called × Answered)). PlanLeft a s ps m plan) (sym pairs) left_plan

@@ -53,6 +53,26 @@ pub record GoesThrough (r : Answered) : Type 0 where
   pub words_admitted : (i : ℕ) → ¬ (r ≡ Err (Number (NotAdmitted i)))
   pub no_overflow : ¬ (r ≡ Err Overflow)
 
+-- a call that is answered so writes no plan: it is no picking, or one that is refused
+abbrev pub KeepsPlan : Called → Answered → Type 0
+KeepsPlan (posting ws) r = Unit {0}
+KeepsPlan clearing r = Unit {0}
+KeepsPlan (picking choice) r = ¬ (r ≡ Ok Done)
+KeepsPlan showing r = Unit {0}
+
+-- a call that is answered so keeps the fixed plan and the moves: no posting that is taken, and no clearing that is done
+abbrev pub KeepsSheet : Called → Answered → Type 0
+KeepsSheet (posting ws) r = ¬ (r ≡ Ok Done)
+KeepsSheet clearing r = ¬ (r ≡ Ok Done)
+KeepsSheet (picking choice) r = Unit {0}
+KeepsSheet showing r = Unit {0}
+
+abbrev pub AllKeepPlan : List (Called × Answered) → Type 0
+AllKeepPlan calls = AllByRecursion (λ call. KeepsPlan call.0 call.1) calls
+
+abbrev pub AllKeepSheet : List (Called × Answered) → Type 0
+AllKeepSheet calls = AllByRecursion (λ call. KeepsSheet call.0 call.1) calls
+
 module _ {N C : Type 0} (a : Arithmetic N C) where
   -- the words ws, posted to the sheet m of n unknowns with the equations es in force, are rightly answered r
   pub record RightlyAnswered (n : ℕ) (es : List Equation) (m : Model C) (ws : List ℤ) (r : Answered) : Type 0 where
@@ -101,15 +121,14 @@ module _ {N C : Type 0} (a : Arithmetic N C) where
     pub pickings : (before behind : List (Called × Answered)) (choice : List ℤ) → calls ≡ before ++ ((picking choice, Ok Done) ∷ behind) →
         RightlyPicked m.unknowns (in_force m.unknowns before) (sheet_before s before) choice (plan_after s before choice)
 
-  -- none of the calls is a picking that is done
-  abbrev pub NonePicked : List (Called × Answered) → Type 0
-  NonePicked calls = AllByRecursion (λ call. (choice : List ℤ) → ¬ (call ≡ (picking choice, Ok Done))) calls
-
-  -- THE PROMISE OF THE PLAN'S WORDS that the calls made from the state s on really left; a run leaves those of its last
-  -- picking alone, but any picking is the last of the run that ends with it
-  pub record PlanLeft (s : State C) (calls : List (Called × Answered)) (plan : List ℤ) : Type 0 where
-    -- they are rightly those of the last picking that is done, whatever calls are made behind it
-    pub picked : (before behind : List (Called × Answered)) (choice : List ℤ) → calls ≡ before ++ ((picking choice, Ok Done) ∷ behind) → NonePicked behind →
-        RightlyPicked s.sheet.unknowns (in_force s.sheet.unknowns before) (sheet_before s before) choice plan
-    -- where none is done they are as they were
-    pub kept : NonePicked calls → plan ≡ s.plan
+  -- THE PROMISE OF THE PLAN'S WORDS, for calls as above, the sheet m and the words `plan` that they really left. Only the
+  -- last picking that is done has its words there, but any picking is the last of the run that ends with it
+  pub record PlanLeft (s : State C) (calls : List (Called × Answered)) (m : Model C) (plan : List ℤ) : Type 0 where
+    -- whatever calls are made behind it, the plan has a number for each unknown, and meets every equation in force before it
+    pub meets : (before behind : List (Called × Answered)) (choice : List ℤ) → calls ≡ before ++ ((picking choice, Ok Done) ∷ behind) → AllKeepPlan behind →
+        (length plan ≡ m.unknowns) × MeetsAll a.modulus (in_force m.unknowns before) plan
+    -- and while they keep the sheet, it is the plan that the choice makes out of the fixed plan and the moves in the cells
+    pub is_made : (before behind : List (Called × Answered)) (choice : List ℤ) → calls ≡ before ++ ((picking choice, Ok Done) ∷ behind) → AllKeepPlan behind →
+        AllKeepSheet behind → RightlyPicked m.unknowns (in_force m.unknowns before) m choice plan
+    -- where no picking is done the words are as they were
+    pub kept : AllKeepPlan calls → plan ≡ s.plan

@@ -80,7 +80,7 @@ pub fn run<K: Kind>(
     ensures sound { Sound K.Kind.arith (model_of cells.new result) }
     ensures spare { SpareZero K.Kind.arith (model_of cells.new result) }
     ensures promise { Promise K.Kind.arith (begun K.Kind.arith unknowns list cells.old plan.old (page_model page.old)) (pairs_in steps.new) (model_of cells.new result) }
-    ensures plan_left { PlanLeft K.Kind.arith (begun K.Kind.arith unknowns list cells.old plan.old (page_model page.old)) (pairs_in steps.new) plan.new }
+    ensures plan_left { PlanLeft K.Kind.arith (begun K.Kind.arith unknowns list cells.old plan.old (page_model page.old)) (pairs_in steps.new) (model_of cells.new result) plan.new }
 {
     let mut sheet = Sheet::<K>::open(cells, unknowns, list);
     make_steps(&mut sheet, steps, plan, page);

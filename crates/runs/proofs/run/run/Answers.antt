@@ -28,5 +28,5 @@ returns g c =
       sound = sound_kept a s.sheet.unknowns s calls opening laws _ c.outline.result (search rules);
       spare = spare_kept a s.sheet.unknowns s calls opening laws _ c.outline.result (search rules);
       promise = promise_kept a s.sheet.unknowns s calls opening laws steps _ c.make_steps.ensures.calls answered (search rules);
-      plan_left = plan_kept a s calls opening laws steps _ c.make_steps.ensures.calls answered (search rules);
+      plan_left = plan_kept a s.sheet.unknowns s calls opening laws steps _ _ c.make_steps.ensures.calls answered (search rules) (search rules);
     }
