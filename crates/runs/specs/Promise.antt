@@ -121,13 +121,15 @@ module _ {N C : Type 0} (a : Arithmetic N C) where
     pub pickings : (before behind : List (Called × Answered)) (choice : List ℤ) → calls ≡ before ++ ((picking choice, Ok Done) ∷ behind) →
         RightlyPicked m.unknowns (in_force m.unknowns before) (sheet_before s before) choice (plan_after s before choice)
 
-  -- THE PROMISE OF THE PLAN'S WORDS, for calls as above, the sheet m and the words `plan` that they really left. Only the
-  -- last picking that is done has its words there, but any picking is the last of the run that ends with it
+  -- THE PROMISE OF THE PLAN'S WORDS, for calls as above, the sheet m and the words `plan` that they really left. Only
+  -- the last picking that is done has its words there, but any picking is the last of the run that ends with it
   pub record PlanLeft (s : State C) (calls : List (Called × Answered)) (m : Model C) (plan : List ℤ) : Type 0 where
-    -- whatever calls are made behind it, the plan has a number for each unknown, and meets every equation in force before it
+    -- whatever calls are made behind it, the plan has a number for each unknown, and meets every equation in force
+    -- before it
     pub meets : (before behind : List (Called × Answered)) (choice : List ℤ) → calls ≡ before ++ ((picking choice, Ok Done) ∷ behind) → AllKeepPlan behind →
         (length plan ≡ m.unknowns) × MeetsAll a.modulus (in_force m.unknowns before) plan
-    -- and while they keep the sheet, it is the plan that the choice makes out of the fixed plan and the moves in the cells
+    -- and while they keep the sheet, it is the plan that the choice makes out of the fixed plan and the moves that the
+    -- cells hold
     pub is_made : (before behind : List (Called × Answered)) (choice : List ℤ) → calls ≡ before ++ ((picking choice, Ok Done) ∷ behind) → AllKeepPlan behind →
         AllKeepSheet behind → RightlyPicked m.unknowns (in_force m.unknowns before) m choice plan
     -- where no picking is done the words are as they were

@@ -4,3 +4,4 @@ pub mod Picks
 pub mod Placing
 pub mod Replies
 pub mod Wiping
+pub mod Written

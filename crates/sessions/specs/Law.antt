@@ -1,5 +1,5 @@
 -- What each line keeps to, in the words of equations and plans. Assumes nothing.
-use Rattle.std.specs.Prelude.{◌≡◌, ℕ, List, [], ◌∷◌, map, length, ℤ, pos, Some, None, Ok, Err, Option, Result}
+use Rattle.std.specs.Prelude.{◌≡◌, ℕ, List, [], ◌∷◌, map, length, take, drop, ℤ, pos, Some, None, Ok, Err, Option, Result}
 use Rattle.faults.specs.declared.SheetFault.{SheetFault}
 use Rattle.faults.specs.declared.SheetFault.TheVariants.{Page, Line, Number, NoSheet, Count, FewCells, Overflow, Contradicted}
 use Rattle.kinds.specs.Equation.{Equation}
@@ -12,7 +12,7 @@ use Rattle.sheets.specs.Law.{equation_of, contents_of, StandsFor}
 use Rattle.sheets.specs.Sheet.{Model}
 use Rattle.sheets.specs.declared.posting.Verdict.TheVariants.{Taken, Implied}
 use Rattle.sessions.specs.Frames.{frame_kind}
-use Rattle.sessions.specs.Session.{View, without_sheet, on_whole, on_weekday, word, unknowns_of, picked_of, line_answer}
+use Rattle.sessions.specs.Session.{View, without_sheet, on_whole, on_weekday, word, unknowns_of, picked_of, plan_text, line_answer}
 use Rattle.sessions.specs.declared.frame.Done.{Done}
 use Rattle.sessions.specs.declared.frame.Done.TheVariants.{Opened, Posted, Cleared, Picked, Shown}
 use Rattle.sessions.specs.declared.frame.Frame.{Frame}
@@ -92,3 +92,13 @@ pub record FrameLaw (v : View) (frame : Frame) (ws : List ℤ) (r : Result Done 
 -- the same of a line
 abbrev pub LineLaw : View → List ℕ → View → Type 0
 LineLaw v line after = FrameLaw v (frame_kind (frame_of line)) (numbers line) (line_answer v line) after
+
+-- the line of a plan stands in the output behind the answer line, which has 29 bytes; it is a plan that the session's
+-- sheet gives for the choice in the line that was answered
+pub record PlanWritten (v : View) (line out : List ℕ) : Type 0 where
+  pub plan : List ℤ
+  pub there : take (length (plan_text plan)) (drop 29 out) ≡ plan_text plan
+  -- the plan has a number for each unknown, and meets every equation in force
+  pub meets : (es : List Equation) → SessionStands v es → (length plan ≡ unknowns_of v) × MeetsAll (modulus_of v) es plan
+  -- and is the one that the choice makes
+  pub is_made : MadeIn v (numbers line) plan
