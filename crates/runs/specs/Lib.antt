@@ -2,3 +2,6 @@ pub mod Calls
 pub mod Run
 pub mod Laws
 pub mod Promise
+pub mod Unique
+pub mod Samples
+pub mod SampleKinds
