@@ -1,12 +1,14 @@
--- A line that is begun, filled and closed is its text at the page's end.
-use Rattle.std.proofs.Common.{◌≡◌, ℕ, suc, ◌+◌, ◌*◌, ◌≤◌, Bool, true, false, cond, ltb, List, [], ◌∷◌, ◌++◌, length, take, drop, replicate, fold, ℤ, Some, None, sym, refl, ap, ◌∙◌, add-zero, arith}
+-- A line that is begun, filled and closed is its text at the page's end, with zeroes behind one that was not full; one
+-- that is given up leaves zeroes. And when a line can begin, and a text has room.
+use Rattle.std.proofs.Common.{◌≡◌, ℕ, suc, ◌+◌, ◌-◌, ◌*◌, ◌≤◌, Bool, true, false, cond, ltb, List, [], ◌∷◌, ◌++◌, length, take, drop, replicate, fold, ℤ, Some, None, sym, refl, ap, ◌∙◌, add-zero, arith}
 use Rattle.std.specs.List.{flat_map}
-use Rattle.std.proofs.lemmas.Bool.{ltb-false}
+use Rattle.std.proofs.lemmas.Bool.{ltb-false, le-ltb}
 use Rattle.faults.specs.declared.PageFault.TheVariants.{NoRoom, LineBegun, TooMany}
 use Rattle.std.proofs.lemmas.List.{append_assoc, append-nil, length-append, length-take-le, length-replicate, length_push, take_at, drop_at, replicate-append-replicate, flat_map_more}
 use Rattle.lines.specs.Hex.{text, word_text}
 use Rattle.lines.specs.Line.{line_text}
-use Rattle.lines.specs.Page.{over, zeroed, Model, between, began, with_word, closed, with_text, begin_refusal}
+use Rattle.lines.specs.Page.{over, zeroed, Model, between, began, with_word, closed, given_up, with_text, begin_refusal, HasRoom}
+use Rattle.lines.specs.PageLaws.{ShortLine, GivenUp, RoomExact}
 
 pub over_inside : {X : Type 0} (d : List X) (at x : ℕ) (p q q' r : List X) → x ≡ at + length p → length q ≡ length q' → at ≤ length d
     → over (over d at (p ++ (q ++ r))) x q' ≡ over d at (p ++ (q' ++ r))
@@ -43,6 +45,9 @@ length_joined (u ∷ us) = let e = length-append (word_text u) (flat_map word_te
 joined_push : (us : List ℤ) (w : ℤ) → flat_map word_text us ++ word_text w ≡ flat_map word_text (us ++ w ∷ [])
 joined_push us w = flat_map_more word_text [] us w
 
+zeroed_over : (d : List ℕ) (at k : ℕ) → zeroed d at k ≡ over d at (Z k)
+zeroed_over d at k = ap (λ (i : ℕ). take at d ++ (Z k ++ drop (at + i) d)) (sym (length-replicate k 0))
+
 module _ (m : Model) (frame n : ℕ) (fits : m.end + (5 + 8 * n) ≤ length m.bytes) where
   -- the page with the numbers us put and room for k more
   filled : List ℤ → ℕ → Model
@@ -55,8 +60,7 @@ module _ (m : Model) (frame n : ℕ) (fits : m.end + (5 + 8 * n) ≤ length m.by
       let at = m.end in
       let z : Z (5 + 8 * n) ≡ Z 2 ++ Z (3 + 8 * n) = ap Z (omega arith) ∙ sym (replicate-append-replicate 2 (3 + 8 * n) 0) in
       let z2 : Z (3 + 8 * n) ≡ OO ++ Z (8 * n + 1) = ap Z (omega arith) ∙ sym (replicate-append-replicate 2 (8 * n + 1) 0) in
-      let l : 5 + 8 * n ≡ length (Z (5 + 8 * n)) = sym (length-replicate (5 + 8 * n) 0) in
-      let a : zeroed d at (5 + 8 * n) ≡ over d at (Z (5 + 8 * n)) = ap (λ (k : ℕ). take at d ++ (Z (5 + 8 * n) ++ drop (at + k) d)) l in
+      let a = zeroed_over d at (5 + 8 * n) in
       let b : over (over d at (Z 2 ++ Z (3 + 8 * n))) at (text 2 frame) ≡ over d at (text 2 frame ++ Z (3 + 8 * n)) = over_inside d at at [] (Z 2) (text 2 frame) (Z (3 + 8 * n)) (sym (add-zero at)) refl (omega arith) in
       ap (λ (bs : List ℕ). record { bytes = bs; end = at; begun = true; room = n; put = 0 })
       (ap (λ (x : List ℕ). over x at (text 2 frame)) (a ∙ ap (over d at) z) ∙ b ∙ ap (λ (x : List ℕ). over d at (text 2 frame ++ x)) z2)
@@ -79,33 +83,64 @@ module _ (m : Model) (frame n : ℕ) (fits : m.end + (5 + 8 * n) ≤ length m.by
       (ap (λ (y : List ℕ). over (over d at y) (at + (4 + 8 * length us)) (word_text w)) (ap (λ (y : List ℕ). text 2 frame ++ (OO ++ (J ++ y))) z ∙ s) ∙ i ∙ ap (over d at) (t ∙ j))
       ∙ ap (λ (q : ℕ). record { bytes = over d at (text 2 frame ++ (OO ++ (flat_map word_text (us ++ w ∷ []) ++ Z (8 * k + 1)))); end = at; begun = true; room = n; put = q }) c
 
-  puts_filled : (us ws : List ℤ) → fold with_word (filled us (length ws)) ws ≡ filled (us ++ ws) 0
-  puts_filled us [] = ap (λ (x : List ℤ). filled x 0) (sym (append-nil us))
-  puts_filled us (w ∷ ws) =
-      ap (λ (x : Model). fold with_word x ws) (word_filled us (length ws) w) ∙ puts_filled (us ++ w ∷ []) ws ∙ ap (λ (x : List ℤ). filled x 0) (append_assoc us (w ∷ []) ws)
+  -- the numbers ws put behind us, where j have room and k of them are left
+  puts_filled : (us ws : List ℤ) (j k : ℕ) → j ≡ length ws + k → fold with_word (filled us j) ws ≡ filled (us ++ ws) k
+  puts_filled us [] j k e = let z : j ≡ k = omega arith in ap (filled us) z ∙ ap (λ (x : List ℤ). filled x k) (sym (append-nil us))
+  puts_filled us (w ∷ ws) j k e =
+      ap (λ (i : ℕ). fold with_word (filled us i) (w ∷ ws)) (omega arith)
+      ∙ ap (λ (x : Model). fold with_word x ws) (word_filled us (length ws + k) w)
+      ∙ puts_filled (us ++ w ∷ []) ws (length ws + k) k refl
+      ∙ ap (λ (x : List ℤ). filled x k) (append_assoc us (w ∷ []) ws)
 
-  closed_filled : (ws : List ℤ) → closed (filled ws 0) ≡ with_text m (line_text frame ws ++ 10 ∷ [])
+  -- a line closed with room for k numbers more
+  closed_filled : (ws : List ℤ) (k : ℕ) → closed (filled ws k) ≡ between (over m.bytes m.end (line_text frame ws ++ 10 ∷ Z (8 * k))) (m.end + (5 + 8 * length ws))
   unfolding filled
-  closed_filled ws =
+  closed_filled ws k =
       let d = m.bytes in
       let at = m.end in
       let J = flat_map word_text ws in
-      let i = over_inside d at (at + 2) (text 2 frame) OO (text 2 (length ws)) (J ++ Z 1) refl refl (omega arith) in
+      let i = over_inside d at (at + 2) (text 2 frame) OO (text 2 (length ws)) (J ++ Z (8 * k + 1)) refl refl (omega arith) in
       let P = text 2 frame ++ (text 2 (length ws) ++ J) in
-      let s : text 2 frame ++ (text 2 (length ws) ++ (J ++ Z 1)) ≡ P ++ (Z 1 ++ []) = simp append_assoc in
+      let z : Z (8 * k + 1) ≡ Z 1 ++ Z (8 * k) = ap Z (omega arith) ∙ sym (replicate-append-replicate 1 (8 * k) 0) in
+      let s : text 2 frame ++ (text 2 (length ws) ++ (J ++ (Z 1 ++ Z (8 * k)))) ≡ P ++ (Z 1 ++ Z (8 * k)) = simp append_assoc in
       let e = length_joined ws in
       let x : at + (4 + 8 * length ws) ≡ at + length P = omega arith in
-      let k = over_inside d at (at + (4 + 8 * length ws)) P (Z 1) (10 ∷ []) [] x refl (omega arith) in
-      let t : P ++ ((10 ∷ []) ++ []) ≡ line_text frame ws ++ 10 ∷ [] = refl in
-      let b = ap (λ (y : List ℕ). over y (at + (4 + 8 * length ws)) (10 ∷ [])) (i ∙ ap (over d at) s) ∙ k ∙ ap (over d at) t in
-      let l : at + (5 + 8 * length ws) ≡ at + length (line_text frame ws ++ 10 ∷ []) = let f = length_push (line_text frame ws) 10 in omega arith in
-      λ j. between (b j) (l j)
+      let l = over_inside d at (at + (4 + 8 * length ws)) P (Z 1) (10 ∷ []) (Z (8 * k)) x refl (omega arith) in
+      let t : P ++ ((10 ∷ []) ++ Z (8 * k)) ≡ line_text frame ws ++ 10 ∷ Z (8 * k) = refl in
+      let b = ap (λ (y : List ℕ). over y (at + (4 + 8 * length ws)) (10 ∷ [])) (i ∙ ap (over d at) (ap (λ (y : List ℕ). text 2 frame ++ (text 2 (length ws) ++ (J ++ y))) z ∙ s)) ∙ l ∙ ap (over d at) t in
+      ap (λ (y : List ℕ). between y (at + (5 + 8 * length ws))) b
+
+  -- a line given up with room for k numbers more
+  given_filled : (us : List ℤ) (k : ℕ) → n ≡ length us + k → given_up (filled us k) ≡ between (zeroed m.bytes m.end (5 + 8 * n)) m.end
+  unfolding filled
+  given_filled us k e =
+      let d = m.bytes in
+      let at = m.end in
+      let S = text 2 frame ++ (OO ++ (flat_map word_text us ++ Z (8 * k + 1))) in
+      let O = Z (5 + 8 * n) in
+      let j = length_joined us in
+      let p = length-append (flat_map word_text us) (Z (8 * k + 1)) in
+      let q : length (Z (8 * k + 1)) ≡ 8 * k + 1 = length-replicate (8 * k + 1) 0 in
+      let r : length O ≡ 5 + 8 * n = length-replicate (5 + 8 * n) 0 in
+      let l : length S ≡ length O = omega arith in
+      let i = over_inside d at at [] S O [] (sym (add-zero at)) l (omega arith) in
+      ap (λ (y : List ℕ). between y at)
+      (zeroed_over (over d at S) at (5 + 8 * n)
+      ∙ ap (λ (y : List ℕ). over (over d at y) at O) (sym (append-nil S))
+      ∙ i
+      ∙ ap (over d at) (append-nil O)
+      ∙ sym (zeroed_over d at (5 + 8 * n)))
+
+  all_put : (ws : List ℤ) → length ws ≤ n → fold with_word (began m frame n) ws ≡ filled ws (n - length ws)
+  all_put ws h = ap (λ (x : Model). fold with_word x ws) began_filled ∙ puts_filled [] ws n (n - length ws) (omega arith)
 
 pub line_stands : (m : Model) (frame : ℕ) (ws : List ℤ) → m.end + (5 + 8 * length ws) ≤ length m.bytes
     → closed (fold with_word (began m frame (length ws)) ws) ≡ with_text m (line_text frame ws ++ 10 ∷ [])
 line_stands m frame ws fits =
-    ap closed (ap (λ (x : Model). fold with_word x ws) (began_filled m frame (length ws) fits) ∙ puts_filled m frame (length ws) fits [] ws)
-    ∙ closed_filled m frame (length ws) fits ws
+    let l : m.end + (5 + 8 * length ws) ≡ m.end + length (line_text frame ws ++ 10 ∷ []) = let e = length_joined ws in let f = length_push (line_text frame ws) 10 in omega arith in
+    ap closed (ap (λ (x : Model). fold with_word x ws) (began_filled m frame (length ws) fits) ∙ puts_filled m frame (length ws) fits [] ws (length ws) 0 (omega arith))
+    ∙ closed_filled m frame (length ws) fits ws 0
+    ∙ ap (between (over m.bytes m.end (line_text frame ws ++ 10 ∷ []))) l
 
 -- a line can begin
 pub begins : (m : Model) (n : ℕ) → begin_refusal m n ≡ None → (m.end + (5 + 8 * n) ≤ length m.bytes) × (n ≤ 25)
@@ -116,3 +151,25 @@ begins m n e = by m.begun (ltb (length m.bytes) (m.end + (5 + 8 * n))) (ltb 25 n
     by false true u p q e = absurd cc
     by false false true p q e = absurd cc
     by false false false p q e = (ltb-false (length m.bytes) (m.end + (5 + 8 * n)) p, ltb-false 25 n q)
+
+pub short_line : ShortLine
+short_line m frame room ws b h =
+    let fits = (begins m room b).0 in
+    ap closed (all_put m frame room fits ws h) ∙ closed_filled m frame room fits ws (room - length ws)
+
+pub given_line : GivenUp
+given_line m frame room ws b h =
+    let fits = (begins m room b).0 in
+    ap given_up (all_put m frame room fits ws h) ∙ given_filled m frame room fits ws (room - length ws) (omega arith)
+
+-- room for a text
+pub room_exact : RoomExact
+room_exact m len = (
+  λ h. (λ j. cond (h.idle j) (Some LineBegun) (cond (le-ltb (length m.bytes) (m.end + len) h.room j) (Some NoRoom) None)),
+  by m.begun (ltb (length m.bytes) (m.end + len)) refl refl,
+)
+  where
+    by : (b t : Bool) → m.begun ≡ b → ltb (length m.bytes) (m.end + len) ≡ t → cond b (Some LineBegun) (cond t (Some NoRoom) None) ≡ None → HasRoom m len
+    by true t p q e = absurd cc
+    by false true p q e = absurd cc
+    by false false p q e = record { idle = p; room = ltb-false (length m.bytes) (m.end + len) q }

@@ -3,5 +3,6 @@ pub mod Opening
 pub mod Picks
 pub mod Placing
 pub mod Replies
+pub mod Thirteen
 pub mod Wiping
 pub mod Written
