@@ -23,7 +23,7 @@ two_is_some e = omega arith
 lowest_fails : ¬ Passes wholes (record { value = negsuc 2147483647 })
 lowest_fails p = let e : ◌≡◌ {A = Option Whole} None (Some p.0) = p.1 in absurd cc
 
-other_number : ¬ (negsuc 2 ≡ negsuc 12)
+pub other_number : ¬ (negsuc 2 ≡ negsuc 12)
 other_number e = omega (arith, ints)
 
 pub calls : CallSamples

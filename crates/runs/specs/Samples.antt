@@ -2,7 +2,7 @@
 use Rattle.std.specs.Prelude.{◌≡◌, ℕ, ◌-◌, List, [], ◌∷◌, ◌++◌, map, length, replicate, ℤ, pos, negsuc, Ok, Err}
 use Rattle.faults.specs.Faults.{sheet_fault}
 use Rattle.faults.specs.declared.NumberFault.TheVariants.{Unknowns, ListNumber}
-use Rattle.faults.specs.declared.SheetFault.TheVariants.{Number, FewCells, Overflow, Contradicted}
+use Rattle.faults.specs.declared.SheetFault.TheVariants.{Number, Count, FewCells, Overflow, Contradicted}
 use Rattle.kinds.specs.Equation.{Equation}
 use Rattle.kinds.specs.Whole.{wholes}
 use Rattle.kinds.specs.declared.whole.WholeCell.{WholeCell}
@@ -13,9 +13,9 @@ use Rattle.sheets.specs.Sheet.{Model, checked, opened, post_left}
 use Rattle.sheets.specs.declared.posting.Verdict.TheVariants.{Taken, Implied}
 use Rattle.lines.specs.Page.{empty_page}
 use Rattle.runs.specs.declared.call.Success.TheVariants.{Done, Implied as IsImplied}
-use Rattle.runs.specs.Calls.{Answered, Called, posting, clearing}
+use Rattle.runs.specs.Calls.{Answered, Called, posting, clearing, picking}
 use Rattle.runs.specs.Run.{State}
-use Rattle.runs.specs.Promise.{Promise}
+use Rattle.runs.specs.Promise.{Promise, PlanLeft}
 
 -- 3 x + 5 y = 1
 abbrev pub sum_one : Equation
@@ -115,6 +115,10 @@ near_words = pos 1 ∷ (pos 1 ∷ (pos 0 ∷ []))
 abbrev pub two_calls : List (Called × Answered)
 two_calls = (posting far_words, Ok Done) ∷ ((posting near_words, Err Overflow) ∷ [])
 
+-- the posting of the equation, a picking of the choice 2, and calls that keep what it wrote
+abbrev pub picked_calls : List (Called × Answered)
+picked_calls = (posting one_words, Ok Done) ∷ ((picking (pos 2 ∷ []), Ok Done) ∷ ((posting one_words, Ok IsImplied) ∷ ((picking [], Err Count) ∷ [])))
+
 -- what the promise accepts and refuses
 pub record RunSamples : Type 0 where
   -- it is kept by the posting answered 0 with the sheet that this leaves, and by the four calls with theirs
@@ -131,3 +135,10 @@ pub record RunSamples : Type 0 where
   pub unknowns_lost : ¬ Promise wholes start (one_call (Ok Done)) (record { cells = after_one.cells; unknowns = 0; moves = 0; list = 1 })
   -- a clearing may not keep one move
   pub one_kept : ¬ Promise wholes start ((clearing, Ok Done) ∷ []) (sheet_of 1 (pos 0 ∷ (pos 0 ∷ (pos 1 ∷ (pos 0 ∷ [])))))
+  -- the plan that the choice makes keeps what is promised of the words left
+  pub picked_kept : PlanLeft wholes start picked_calls after_one (pair (negsuc 12) (pos 8))
+  -- the plan without its move does not, though it meets the equation; nor does one that does not meet it
+  pub move_skipped : ¬ PlanLeft wholes start picked_calls after_one (pair (negsuc 2) (pos 2))
+  pub no_plan : ¬ PlanLeft wholes start picked_calls after_one (pair (pos 0) (pos 0))
+  -- and without a picking the words may not change
+  pub words_changed : ¬ PlanLeft wholes start (one_call (Ok Done)) after_one (pair (negsuc 2) (pos 2))

@@ -1,11 +1,12 @@
 // Running any list of calls on a sheet, from its opening on.
 ghost use Rattle.std.specs.Prelude.{◌≡◌};
+ghost use Rattle.sheets.specs.Law.{Sound, SpareZero};
 ghost use Rattle.sheets.specs.Sheet.{model_of};
 ghost use Rattle.lines.specs.Page.{model as page_model};
 ghost use Rattle.runs.specs.Calls.{called, calls_in, answers_in, pairs_in};
 ghost use Rattle.runs.specs.Run.{state, state_of, answer_to, left_by, answers as answers_to, left as left_behind, begun};
 ghost use Rattle.runs.specs.Laws.{CallLaw, CallsLaw};
-ghost use Rattle.runs.specs.Promise.{Promise};
+ghost use Rattle.runs.specs.Promise.{Promise, PlanLeft};
 
 use crate::call::{Answer, Call, Step, Success};
 use kinds::kind::Kind;
@@ -76,7 +77,10 @@ pub fn run<K: Kind>(
     ensures calls { calls_in steps.new ≡ calls_in steps.old }
     ensures answers { answers_in steps.new ≡ answers_to K.Kind.arith (begun K.Kind.arith unknowns list cells.old plan.old (page_model page.old)) (calls_in steps.old) }
     ensures left { state_of cells.new result plan.new page.new ≡ left_behind K.Kind.arith (begun K.Kind.arith unknowns list cells.old plan.old (page_model page.old)) (calls_in steps.old) }
+    ensures sound { Sound K.Kind.arith (model_of cells.new result) }
+    ensures spare { SpareZero K.Kind.arith (model_of cells.new result) }
     ensures promise { Promise K.Kind.arith (begun K.Kind.arith unknowns list cells.old plan.old (page_model page.old)) (pairs_in steps.new) (model_of cells.new result) }
+    ensures plan_left { PlanLeft K.Kind.arith (begun K.Kind.arith unknowns list cells.old plan.old (page_model page.old)) (pairs_in steps.new) (model_of cells.new result) plan.new }
 {
     let mut sheet = Sheet::<K>::open(cells, unknowns, list);
     make_steps(&mut sheet, steps, plan, page);

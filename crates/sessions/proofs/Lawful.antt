@@ -28,12 +28,14 @@ use Rattle.sessions.specs.Lines.{posted_done, picked_done, done_unless, bare_ref
 use Rattle.sessions.specs.Session.{View, without_sheet, on_whole, on_weekday, whole_cells, weekday_cells, word, open_check, open_done, open_left, act, acted, unknowns_of, answer_by, after_by, line_after}
 use Rattle.sessions.specs.declared.frame.Chosen.{Chosen}
 use Rattle.sessions.specs.declared.frame.Chosen.TheVariants.{Whole, Weekday}
-use Rattle.sessions.specs.declared.frame.Done.TheVariants.{Opened, Cleared, Shown}
+use Rattle.sessions.specs.declared.frame.Done.TheVariants.{Opened, Cleared, Picked, Shown}
 use Rattle.sessions.specs.declared.frame.Frame.{Frame}
 use Rattle.sessions.specs.declared.frame.Frame.TheVariants.{Open, Ask}
 use Rattle.sessions.specs.declared.frame.Request.{Request}
 use Rattle.sessions.specs.declared.frame.Request.TheVariants.{Equation as Posting, Clear, Pick, Show}
-use Rattle.sessions.proofs.Replies.{Small}
+use Rattle.sessions.proofs.Opening.{open_done_as, ask_opens_none}
+use Rattle.sessions.proofs.Picks.{ask_pick_law}
+use Rattle.sessions.proofs.Replies.{Small, open_not}
 use Rattle.lines.specs.Hex.{Hex, hex_value, number_of}
 use Rattle.lines.specs.Line.{frame_of, numbers, count_of, words_of, refusal}
 use Rattle.lines.proofs.Accepting.{accepted}
@@ -144,17 +146,33 @@ act_law v Open ws s fit = record {
   kept = λ n. open_kept v (open_check v ws) ws n;
   in_force = λ es h. open_stands v (open_check v ws) ws (equation_of (unknowns_of v) ws) es h;
   verdict = λ f es h j g. absurd cc;
+  opened = open_done_as v ws;
+  picked = λ p. absurd (open_not (open_check v ws) Picked (λ h. cc) p);
+  is_made = λ p. absurd (open_not (open_check v ws) Picked (λ h. cc) p);
 }
-act_law (without_sheet w d) (Ask q) ws s fit = record { kept = λ n. (refl, refl); in_force = λ es h. h; verdict = λ f es h j g. absurd cc }
+act_law (without_sheet w d) (Ask q) ws s fit = record {
+  kept = λ n. (refl, refl);
+  in_force = λ es h. h;
+  verdict = λ f es h j g. absurd cc;
+  opened = λ o. absurd cc;
+  picked = λ p. absurd cc;
+  is_made = λ p. absurd cc;
+}
 act_law (on_whole m d) (Ask q) ws (s, few) fit = record {
   kept = λ n. (refl, ask_unknowns wholes whole_laws m few ws fit q);
   in_force = λ es h. ask_stands wholes whole_laws m few ws fit q es h;
   verdict = λ f es h j g. ask_verdict q f (λ p. post_verdict wholes whole_laws m few ws fit es h j (ap (λ (x : Request). judgement_of (ask_answer wholes m x ws)) (sym p) ∙ g));
+  opened = λ o. absurd (ask_opens_none wholes m q ws o);
+  picked = λ p es h. (ask_pick_law wholes whole_laws m few ws fit q p).meets refl es h;
+  is_made = λ p. (ask_pick_law wholes whole_laws m few ws fit q p).is_made refl;
 }
 act_law (on_weekday w m) (Ask q) ws (s, few) fit = record {
   kept = λ n. (refl, ask_unknowns weekdays weekday_laws m few ws fit q);
   in_force = λ es h. ask_stands weekdays weekday_laws m few ws fit q es h;
   verdict = λ f es h j g. ask_verdict q f (λ p. post_verdict weekdays weekday_laws m few ws fit es h j (ap (λ (x : Request). judgement_of (ask_answer weekdays m x ws)) (sym p) ∙ g));
+  opened = λ o. absurd (ask_opens_none weekdays m q ws o);
+  picked = λ p es h. (ask_pick_law weekdays weekday_laws m few ws fit q p).meets refl es h;
+  is_made = λ p. (ask_pick_law weekdays weekday_laws m few ws fit q p).is_made refl;
 }
 
 pub line_law : (v : View) (line : List ℕ) → Small v → LineLaw v line (line_after v line)
@@ -162,4 +180,11 @@ line_law v line s = by (refusal known line) refl
   where
     by : (o : Option LineFault) → refusal known line ≡ o → FrameLaw v (frame_kind (frame_of line)) (numbers line) (answer_by o v line) (after_by o v line)
     by None e = act_law v (frame_kind (frame_of line)) (numbers line) s (numbers_fit known line e)
-    by (Some fault) e = record { kept = λ n. (refl, refl); in_force = λ es h. h; verdict = λ f es h j g. absurd cc }
+    by (Some fault) e = record {
+      kept = λ n. (refl, refl);
+      in_force = λ es h. h;
+      verdict = λ f es h j g. absurd cc;
+      opened = λ o. absurd cc;
+      picked = λ p. absurd cc;
+      is_made = λ p. absurd cc;
+    }

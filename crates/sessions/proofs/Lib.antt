@@ -1,5 +1,8 @@
 pub mod Lawful
+pub mod Opening
+pub mod Picks
 pub mod Placing
 pub mod Replies
 pub mod Thirteen
 pub mod Wiping
+pub mod Written

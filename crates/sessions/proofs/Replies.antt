@@ -56,19 +56,19 @@ small s = by s.sheet
     by (Some sheet) = on sheet.kind sheet.outline
 
 -- what a result of a kind is not
-open_not : (r : Result Chosen SheetFault) (done : Done) → (Opened ≡ done → ⊥) → open_done r ≡ Ok done → ⊥
+pub open_not : (r : Result Chosen SheetFault) (done : Done) → (Opened ≡ done → ⊥) → open_done r ≡ Ok done → ⊥
 open_not (Ok kind) done n e = let f : Opened ≡ done = cc in n f
 open_not (Err fault) done n e = cc
 
-post_not : (r : Result Verdict SheetFault) (done : Done) → ((v : Verdict) → Posted v ≡ done → ⊥) → posted_done r ≡ Ok done → ⊥
+pub post_not : (r : Result Verdict SheetFault) (done : Done) → ((v : Verdict) → Posted v ≡ done → ⊥) → posted_done r ≡ Ok done → ⊥
 post_not (Ok verdict) done n e = let f : Posted verdict ≡ done = cc in n verdict f
 post_not (Err fault) done n e = cc
 
-bare_not : (o : Option SheetFault) (x done : Done) → (x ≡ done → ⊥) → done_unless o x ≡ Ok done → ⊥
+pub bare_not : (o : Option SheetFault) (x done : Done) → (x ≡ done → ⊥) → done_unless o x ≡ Ok done → ⊥
 bare_not None x done n e = let f : x ≡ done = cc in n f
 bare_not (Some fault) x done n e = cc
 
-picked_not : (r : Result Unit SheetFault) (done : Done) → (Picked ≡ done → ⊥) → picked_done r ≡ Ok done → ⊥
+pub picked_not : (r : Result Unit SheetFault) (done : Done) → (Picked ≡ done → ⊥) → picked_done r ≡ Ok done → ⊥
 picked_not (Ok _) done n e = let f : Picked ≡ done = cc in n f
 picked_not (Err fault) done n e = cc
 

@@ -10,7 +10,7 @@ use Rattle.kinds.specs.declared.whole.WholeCell.{WholeCell}
 use Rattle.sheets.specs.Cells.{needed}
 use Rattle.sheets.specs.Sheet.{Model, opened, post_left}
 use Rattle.sessions.specs.Frames.{answer_number}
-use Rattle.sessions.specs.Law.{LineLaw}
+use Rattle.sessions.specs.Law.{LineLaw, PlanWritten}
 use Rattle.sessions.specs.Session.{View, on_whole, new_session, whole_cells, weekday_cells, line_answer, line_after, reply, lent_refusal}
 
 -- a line and the lines that it is answered by, without their line feeds
@@ -100,3 +100,8 @@ pub record NoPretending : Type 0 where
   pub not_taken : ¬ LineLaw (on_whole fresh []) sum_one (on_whole fresh [])
   pub unknowns_lost : ¬ LineLaw (on_whole fresh []) sum_one (on_whole (record { cells = after_one.cells; unknowns = 0; moves = 0; list = 1 }) [])
   pub not_cleared : ¬ LineLaw (on_whole after_one []) (codes "0300") (on_whole after_one [])
+  -- and where a sheet of one unknown is asked for and opened with two
+  pub other_unknowns : ¬ LineLaw (on_whole fresh []) (codes "0103000000000000000100000001") (on_whole fresh [])
+  -- behind the answer to a pick of the choice 2 stands the plan (-13, 8); (-3, 2), which skips the move, may not
+  pub plan_written : PlanWritten (on_whole after_one []) (codes "040100000002") (replicate 29 48 ++ (codes "8202FFFFFFF300000008" ++ 10 ∷ []))
+  pub move_skipped : ¬ PlanWritten (on_whole after_one []) (codes "040100000002") (replicate 29 48 ++ (codes "8202FFFFFFFD00000002" ++ 10 ∷ []))

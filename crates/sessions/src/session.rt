@@ -1,7 +1,7 @@
 // A session: its sheets' cells, which sheet it is on, and the call that answers one line.
 ghost use Rattle.std.specs.Prelude.{◌≡◌, ◌+◌, ◌≤◌, length, IfOk, None};
 ghost use Rattle.lines.specs.Page.{model as page_model, with_text, over, HasRoom};
-ghost use Rattle.sessions.specs.Law.{LineLaw};
+ghost use Rattle.sessions.specs.Law.{LineLaw, PlanWritten};
 ghost use Rattle.sessions.specs.Session.{view, new_session, open_check, open_done, open_left, act as act_of, acted, planned, line_answer, line_after, line_plan, unknowns_of, show_on_lem as show_on_of, page_after, replied, answer_text, plan_text, reply, lent_refusal, call_answer, kept_if};
 ghost use Rattle.sessions.specs.Wiped.{wiped};
 
@@ -198,6 +198,7 @@ impl Session {
         ensures words { words.new ≡ kept_if (lent_refusal (length out.old) (length words.old)) words.old (wiped words.old) }
         ensures session { view self.new ≡ kept_if (lent_refusal (length out.old) (length words.old)) (view self.old) (line_after (view self.old) line.now) }
         ensures law { lent_refusal (length out.old) (length words.old) ≡ None → LineLaw (view self.old) line.now (view self.new) }
+        ensures plan { lent_refusal (length out.old) (length words.old) ≡ None → line_answer (view self.old) line.now ≡ Ok Done.Picked → PlanWritten (view self.old) line.now out.new }
     {
         if out.len() < OUTPUT {
             return Err(SheetFault::Page(PageFault::NoRoom));

@@ -8,6 +8,7 @@ use Rattle.sessions.specs.Wiped.{wiped}
 use Rattle.sessions.specs.declared.frame.Done.TheVariants.{Picked, Shown}
 use Rattle.sessions.proofs.Lawful.{line_law}
 use Rattle.sessions.proofs.Replies.{Stands, small, shown_stands, plan_picked, reply_written, enough_lent}
+use Rattle.sessions.proofs.Written.{plan_written}
 use Rattle.sessions.proofs.session.Session.call.Goals as goal
 
 pub returns : goal.returns
@@ -33,6 +34,7 @@ returns c =
     ∙ reply_written after (numbers line) plan answer (empty_page out) c.args.number (small c.answer_line-answer.new.self) there picked c.if-out-lt-OUTPUT.false
     ∙ (λ j. with_text (empty_page out) (answer_text c.args.number (e j) ++ rest_text (l j) (numbers line) (e j))) in
     let after_is : view c.write_reply.new.self ≡ line_after v line = c.write_reply.ensures.kept ∙ l in
+    let law = line_law v line (small c.args.self.now) in
     record {
       value = ap Ok (c.end.ensures ∙ ap (λ (x : PageModel). x.end) page ∙ zero-add (length (reply v c.args.number line))) ∙ ap (λ (o : Option SheetFault). call_answer o (reply v c.args.number line)) (sym n);
       within = search rules;
@@ -41,5 +43,6 @@ returns c =
           (ap (λ (x : PageModel). x.bytes) page ∙ ap (λ (o : Option SheetFault). kept_if o out (over out 0 (reply v c.args.number line))) (sym n));
       words = c.answer_line-answer.ensures.words ∙ ap (λ (o : Option SheetFault). kept_if o c.args.words.now (wiped c.args.words.now)) (sym n);
       session = after_is ∙ ap (λ (o : Option SheetFault). kept_if o v (line_after v line)) (sym n);
-      law = λ _. subst (LineLaw v line) (sym after_is) (line_law v line (small c.args.self.now));
+      law = λ _. subst (LineLaw v line) (sym after_is) law;
+      plan = λ _ h. plan_written v line c.args.number out _ law h (◌∙◌ {b = c.write_reply.new.page.bytes.now} (search rules) (ap (λ (x : PageModel). x.bytes) page));
     }
