@@ -1,7 +1,7 @@
 #!/usr/bin/env python3
-"""Random sessions for the program sheet: random_lines.py COUNT SEED [WHOLE], one line in ten damaged.
+"""Random sessions for the program sheet: random_lines.py COUNT SEED [WHOLE [DAMAGED]].
 
-WHOLE is the share of openings with whole numbers, 0.6 unless given.
+WHOLE is the share of openings with whole numbers, 0.6 unless given, and DAMAGED that of lines damaged, 0.1 unless given.
 """
 import random
 import sys
@@ -164,11 +164,12 @@ def main():
     count, seed = int(words[0]), int(words[1])
     r = random.Random(seed)
     session = Session(r, float(words[2]) if len(words) > 2 else 0.6)
+    damaged = float(words[3]) if len(words) > 3 else 0.1
     lines = []
     for i in range(count):
         before = dict(vars(session))
         text = session.line(i >= 50)
-        if r.random() < 0.1:
+        if r.random() < damaged:
             text = damage(r, text)
             vars(session).update(before)
         lines.append(text)
