@@ -21,7 +21,7 @@ fn answers(lines: &[u8], expected: &[u8]) -> bool {
     let mut session = Session::new();
     let mut number: i32 = 0;
     let mut expected = expected;
-    let told = Cutter::new().each_line(lines, |line| -> Result<(), ()> {
+    let told = Cutter::new().each_line(lines, &mut |line| -> Result<(), ()> {
         number = number.saturating_add(1);
         expected = reply(&mut session, number, line, expected).ok_or(())?;
         Ok(())

@@ -102,18 +102,20 @@ left_missed held (b ∷ xs) =
 pub left_on : (held xs ys new : List ℕ) → rest xs ≡ Some ys → new ≡ [] → left new ys ≡ left held xs
 left_on held xs ys new e n = ap (λ (t : List ℕ). left t ys) n ∙ sym (left_found held xs ys e)
 
-module _ {F E : Type 0} (Call : F → List ℕ → Result (Unit {0}) E → F → Type 0) (f g : F) (held xs ys : List ℕ) where
+module _ {F E : Type 0} (Call : F → List ℕ → Result (Unit {0}) E → F → Type 0) (f : F) (old xs : List ℕ) where
   -- the call at the first line is done, and those at the others end in r
-  pub handed_on : (new : List ℕ) (r : Result (Unit {0}) E) → rest xs ≡ Some ys → new ≡ [] → Call f (take 205 (held ++ line xs)) (Ok tt) g → Handed Call g (lines new ys) r → Handed Call f (lines held xs) r
-  handed_on new r e n call others =
-      subst (λ (ls : List (List ℕ)). Handed Call f ls r) (sym (lines_found held xs ys e))
-      (inl (g, call, subst (λ (t : List ℕ). Handed Call g (lines t ys) r) n others))
+  pub handed_on : (g : F) (ys new : List ℕ) (r : Result (Unit {0}) E) (last : F) (held : List ℕ) → rest xs ≡ Some ys → new ≡ [] → Call f (take 205 (old ++ line xs)) (Ok tt) g
+      → Handed Call g (lines new ys) r last held → Handed Call f (lines old xs) r last held
+  handed_on g ys new r last held e n call others =
+      subst (λ (ls : List (List ℕ)). Handed Call f ls r last held) (sym (lines_found old xs ys e))
+      (inl (g, call, subst (λ (t : List ℕ). Handed Call g (lines t ys) r last held) n others))
 
-  -- the call at the first line fails
-  pub handed_until : (error : E) (r : Result (Unit {0}) E) → rest xs ≡ Some ys → r ≡ Err error → Call f (take 205 (held ++ line xs)) (Err error) g → Handed Call f (lines held xs) r
-  handed_until error r e failed call =
-      subst (λ (ls : List (List ℕ)). Handed Call f ls r) (sym (lines_found held xs ys e)) (inr (error, g, call, failed))
+  -- the call at the first line refuses it
+  pub handed_until : (ys : List ℕ) (error : E) (r : Result (Unit {0}) E) (last : F) (held : List ℕ) → rest xs ≡ Some ys → r ≡ Err error → held ≡ take 205 (old ++ line xs)
+      → Call f (take 205 (old ++ line xs)) (Err error) last → Handed Call f (lines old xs) r last held
+  handed_until ys error r last held e failed kept call =
+      subst (λ (ls : List (List ℕ)). Handed Call f ls r last held) (sym (lines_found old xs ys e)) (inr (error, call, failed, kept))
 
   -- there is no line
-  pub handed_all : rest xs ≡ None → Handed Call f (lines held xs) (Ok tt)
-  handed_all e = subst (λ (ls : List (List ℕ)). Handed Call f ls (Ok tt)) (sym (lines_missed held xs e)) refl
+  pub handed_all : (held : List ℕ) → rest xs ≡ None → Handed Call f (lines old xs) (Ok tt) f held
+  handed_all held e = subst (λ (ls : List (List ℕ)). Handed Call f ls (Ok tt) f held) (sym (lines_missed old xs e)) (refl, refl)

@@ -29,8 +29,8 @@ abbrev pub left : List ℕ → List ℕ → List ℕ
 left held [] = take 205 held
 left held (b ∷ bytes) = cond (b == 10) (left [] bytes) (left (held ++ b ∷ []) bytes)
 
--- a call at each line in turn, until one fails; it ends in the result
-abbrev pub Handed : {F E : Type 0} → (F → List ℕ → Result (Unit {0}) E → F → Type 0) → F → List (List ℕ) → Result (Unit {0}) E → Type 0
-Handed Call f [] result = result ≡ Ok tt
-Handed {F} {E} Call f (x ∷ xs) result =
-    ((g : F) × Call f x (Ok tt) g × Handed Call g xs result) ⊎ ((e : E) × (g : F) × Call f x (Err e) g × (result ≡ Err e))
+-- a call at each line in turn, until one refuses a line, which is then held. No other call is made: they lead from f to last
+abbrev pub Handed : {F E : Type 0} → (F → List ℕ → Result (Unit {0}) E → F → Type 0) → F → List (List ℕ) → Result (Unit {0}) E → F → List ℕ → Type 0
+Handed Call f [] result last held = (result ≡ Ok tt) × (last ≡ f)
+Handed {F} {E} Call f (x ∷ xs) result last held =
+    ((g : F) × Call f x (Ok tt) g × Handed Call g xs result last held) ⊎ ((e : E) × Call f x (Err e) last × (result ≡ Err e) × (held ≡ x))

@@ -90,10 +90,10 @@ impl Cutter {
     pub fn each_line<E, F: FnMut(&[u8]) -> Result<(), E>>(
         &mut self,
         chunk: &[u8],
-        mut each: F,
+        each: &mut F,
     ) -> Result<(), E>
-        requires { F.IsAlwaysCallable each }
-        ensures handed { Handed (CalledAt F.FnMut) each (lines self.old chunk.now) result }
+        requires { F.IsAlwaysCallable each.old }
+        ensures handed { Handed (CalledAt F.FnMut) each.old (lines self.old chunk.now) result each.new self.new }
         ensures kept { OnOk result (self.new ≡ left self.old chunk.now) }
     {
         let mut text = chunk;

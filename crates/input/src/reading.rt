@@ -1,5 +1,5 @@
 // Reading an input to its end, a chunk at a time.
-ghost use Rattle.std.specs.Prelude.{List, ℕ, IfSome, OnOk};
+ghost use Rattle.std.specs.Prelude.{List, ℕ};
 ghost use Rattle.std.specs.Fn.{CalledAt};
 ghost use Rattle.input.specs.Chunks.{Fed};
 
@@ -9,11 +9,11 @@ use std::io::BufRead;
 // Hands each chunk of the input to `each`, until the input is at its end or a call answers false: it has enough.
 pub fn each_chunk<R: BufRead, F: FnMut(&[u8]) -> io::Result<bool>>(
     input: &mut R,
-    mut each: F,
+    each: &mut F,
 ) -> io::Result<()>
-    requires { F.IsAlwaysCallable each }
-    ensures { OnOk result (IfSome (R.remaining input.old) (λ bytes.
-        (chunks : List (List ℕ)) × Fed (CalledAt F.FnMut) each bytes chunks)) }
+    requires { F.IsAlwaysCallable each.old }
+    ensures { (chunks : List (List ℕ)) × Fed (CalledAt F.FnMut) each.old (R.remaining input.old) chunks
+        result each.new (R.remaining input.new) }
 {
     // Counted, since a reader says nothing of what is left that would end a loop; the label names the loop in its proof.
     'chunks: for _ in 0..u64::MAX {

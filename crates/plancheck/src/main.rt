@@ -47,8 +47,8 @@ fn main(rt: HostRuntime) -> io::Result<()> {
     let mut out = BufWriter::new(rt.alloc(), rt.stdout())?;
     let mut cutter = Cutter::new();
     let mut pairs = Pairs::default();
-    each_chunk(&mut input, |chunk| {
-        cutter.each_line(chunk, |line| pairs.take(line, &mut out))?;
+    each_chunk(&mut input, &mut |chunk| {
+        cutter.each_line(chunk, &mut |line| pairs.take(line, &mut out))?;
         out.flush()?;
         Ok(true)
     })?;

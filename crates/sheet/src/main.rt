@@ -58,8 +58,8 @@ fn main(rt: HostRuntime) -> io::Result<()> {
     let mut out = BufWriter::new(rt.alloc(), rt.stdout())?;
     let mut cutter = Cutter::new();
     let mut desk = Desk::new();
-    each_chunk(&mut input, |chunk| {
-        cutter.each_line(chunk, |line| desk.answer(line, &mut out))?;
+    each_chunk(&mut input, &mut |chunk| {
+        cutter.each_line(chunk, &mut |line| desk.answer(line, &mut out))?;
         out.flush()?;
         Ok(!desk.is_done())
     })?;
