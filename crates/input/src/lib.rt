@@ -5,6 +5,7 @@
 ghost use Rattle.std.specs.Prelude.{◌≡◌, ◌<◌, ◌≤◌, ◌++◌, ◌==◌, [], length, take, position, option_copied, IfSome, OnOk};
 ghost use Rattle.std.specs.Fn.{CalledAt};
 ghost use Rattle.input.specs.Cutting.{line as line_part, rest, lines, left, Handed};
+ghost use Rattle.input.specs.Told.{CutTold, LinesNoted, BytesNoted};
 
 use std::marker::Model;
 
@@ -12,6 +13,17 @@ pub mod reading;
 
 // One byte more than the longest line has, so that a longer one is still seen to be too long.
 pub const KEEP: usize = 205;
+
+// Carries theorems alone; what it answers means nothing. Samples of cutting follow from the definitions; and what the
+// clauses of `each_line` and `each_chunk` say of calls is told by closures that note what they are handed: they have noted
+// it in order and once, and nothing else.
+pub fn cutting_told() -> u8
+    ensures samples { CutTold }
+    ensures lines { LinesNoted }
+    ensures bytes { BytesNoted }
+{
+    0
+}
 
 // The line so far, at most its first 205 bytes: clauses see these bytes. An array with a length: the memory is fixed, with
 // no heap.
@@ -95,6 +107,7 @@ impl Cutter {
         requires { F.IsAlwaysCallable each.old }
         ensures handed { Handed (CalledAt F.FnMut) each.old (lines self.old chunk.now) result each.new self.new }
         ensures kept { OnOk result (self.new ≡ left self.old chunk.now) }
+        ensures again { F.IsAlwaysCallable each.new }
     {
         let mut text = chunk;
         while let Some(rest) = self.feed(text) {

@@ -12,8 +12,9 @@ pub fn each_chunk<R: BufRead, F: FnMut(&[u8]) -> io::Result<bool>>(
     each: &mut F,
 ) -> io::Result<()>
     requires { F.IsAlwaysCallable each.old }
-    ensures { (chunks : List (List ℕ)) × Fed (CalledAt F.FnMut) each.old (R.remaining input.old) chunks
+    ensures fed { (chunks : List (List ℕ)) × Fed (CalledAt F.FnMut) each.old (R.remaining input.old) chunks
         result each.new (R.remaining input.new) }
+    ensures again { F.IsAlwaysCallable each.new }
 {
     // Counted, since a reader says nothing of what is left that would end a loop; the label names the loop in its proof.
     'chunks: for _ in 0..u64::MAX {

@@ -1,4 +1,4 @@
-use Rattle.std.proofs.Common.{◌≡◌, [], sym, ◌∙◌, ap, option_copied, Some, Err, rules, of_calls}
+use Rattle.std.proofs.Common.{◌≡◌, sym, ◌∙◌, ap, option_copied, Some, Err, rules, of_calls}
 use Rattle.std.specs.Fn.{CalledAt}
 use Rattle.input.specs.Cutting.{rest}
 use Rattle.input.proofs.Cuts.{left_on, left_missed, handed_on, handed_until, handed_all}

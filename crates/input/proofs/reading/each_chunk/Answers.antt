@@ -1,25 +1,25 @@
-use Rattle.std.proofs.Common.{◌≡◌, ◌<◌, [], ◌∷◌, true, false, length, Ok, Err, OnOk, ap, sym, subst, ◌∙◌, rules, arith, of_calls}
+use Rattle.std.proofs.Common.{◌≡◌, ◌<◌, [], ◌∷◌, true, false, length, Ok, Err, OnOk, ap, sym, subst, ◌∙◌, rules, of_calls}
 use Rattle.std.specs.Fn.{Called, CalledAt}
 use Rattle.std.specs.Io.BufRead.{FillKeeps}
 use Rattle.std.specs.Io.KnownBytes.{IsAtEnd, Consumes}
 use Rattle.input.proofs.Feeds.{keeps_itself, shows_none, consumed, fed_all, fed_on, fed_enough, fed_until}
 use Rattle.input.proofs.reading.each_chunk.Goals as goal
 
-pub returns-in_err-chunk : goal.returns-in_err-chunk
-returns-in_err-chunk g c =
+pub returns-in_err-chunk-clause-fed : goal.returns-in_err-chunk-clause-fed
+returns-in_err-chunk-clause-fed g c =
     let here = g.R.Read.remaining c.chunks.input in
     let failed : c.from_residual.result ≡ Err c.in_err-chunk.field-0.0 = search rules in
     c.chunks.invariant.1 [] c.from_residual.result c.chunks.each (g.R.Read.remaining c.fill_buf.follows.lender-at-none)
     (fed_all (CalledAt g.F.FnMut) c.chunks.each here c.from_residual.result (g.R.Read.remaining c.fill_buf.follows.lender-at-none) (subst (λ r. OnOk r (IsAtEnd here)) (sym failed) tt) c.fill_buf.follows.holds-at-none.0)
 
-pub returns-then-len-eq0 : goal.returns-then-len-eq0
-returns-then-len-eq0 g c =
+pub returns-then-len-eq0-clause-fed : goal.returns-then-len-eq0-clause-fed
+returns-then-len-eq0-clause-fed g c =
     let here = g.R.Read.remaining c.chunks.input in
     c.chunks.invariant.1 [] (Ok tt) c.chunks.each (g.R.Read.remaining c.fill_buf.follows.lender-at-none)
     (fed_all (CalledAt g.F.FnMut) c.chunks.each here (Ok tt) (g.R.Read.remaining c.fill_buf.follows.lender-at-none) (shows_none here c.in_ok-chunk.chunk.now c.in_ok-chunk.ensures.end c.if-len-eq0.true) c.fill_buf.follows.holds-at-none.0)
 
-pub returns-in_err-more : goal.returns-in_err-more
-returns-in_err-more g c =
+pub returns-in_err-more-clause-fed : goal.returns-in_err-more-clause-fed
+returns-in_err-more-clause-fed g c =
     let here = g.R.Read.remaining c.chunks.input in
     let chunk = c.in_ok-chunk.chunk in
     let error = c.in_err-more.field-0.0 in
@@ -29,8 +29,8 @@ returns-in_err-more g c =
     (fed_until (CalledAt g.F.FnMut) c.chunks.each here chunk.now some error c.from_residual-in_err-more.result c.each.new.self (g.R.Read.remaining c.fill_buf.follows.lender-at-none) c.in_ok-chunk.ensures.front c.fill_buf.follows.holds-at-none.0
     (record { shown = chunk; shows = search rules; called = c.in_err-more.ensures }) failed)
 
-pub returns-then-not-more : goal.returns-then-not-more
-returns-then-not-more g c =
+pub returns-then-not-more-clause-fed : goal.returns-then-not-more-clause-fed
+returns-then-not-more-clause-fed g c =
     let here = g.R.Read.remaining c.chunks.input in
     let chunk = c.in_ok-chunk.chunk in
     let rested = c.fill_buf.follows.lender-at-none in
@@ -58,7 +58,7 @@ chunks-preserved g c =
           c.chunks.invariant.1 (chunk.now ∷ chunks) result last left (fed_on (CalledAt g.F.FnMut) c.chunks.each here chunk.now some c.each.new.self rest chunks result last left taken call others),
     )
 
-pub returns : goal.returns
-returns g c =
+pub returns-clause-fed : goal.returns-clause-fed
+returns-clause-fed g c =
     let here = g.R.Read.remaining c.chunks.input in
     c.chunks.invariant.1 [] (Err c.into.result) c.chunks.each here (fed_all (CalledAt g.F.FnMut) c.chunks.each here (Err c.into.result) here tt (keeps_itself here))
