@@ -3,44 +3,52 @@ use Rattle.std.proofs.Common.{◌≡◌, ℕ, zero, suc, suc-add, ◌+◌, ◌<�
 use Rattle.std.proofs.lemmas.Grind.{common_steps}
 use Rattle.std.proofs.lemmas.Bool.Decides.{nat_tests}
 use Rattle.std.proofs.lemmas.List.{append-nil, append_assoc, length-append}
-use Rattle.input.specs.Cutting.{Handed}
+use Rattle.std.proofs.Math.Seq.{take-append_seam, take-append-add}
+use Rattle.std.specs.List.{FoldsTo}
 use Rattle.input.specs.Chunks.{Fed}
 use Rattle.input.specs.Told.{NotesLine, LinesNoted, NotesChunk, BytesNoted}
 
-abbrev Done : ℕ → List (List ℕ) → List (List ℕ) → Result (Unit {0}) (Unit {0}) → List (List ℕ) → List ℕ → Type 0
-Done k noted xs result last held =
-    ((length xs ≤ k) × (result ≡ Ok tt) × (last ≡ noted ++ xs)) ⊎ ((k < length xs) × (result ≡ Err tt) × (last ≡ noted ++ take (k + 1) xs) × (last ≡ noted ++ (take k xs ++ held ∷ [])))
+abbrev answer : Bool → Result (Unit {0}) (Unit {0})
+answer room = cond room (Ok tt) (Err tt)
 
-differ : ¬ (Ok (tt {0}) ≡ Err (tt {0}))
-differ e = cc
+-- a line that is taken had room, and one that is refused had none
+took : (k n : ℕ) → Ok tt ≡ answer (nat_lt k n) → k < n
+took k n = elim (nat_lt k n) as (λ b. nat_lt k n ≡ b → Ok tt ≡ answer b → k < n) [
+    | true ↦ λ is ok. grind (arith, nat_tests, is)
+    | false ↦ λ is ok. cc
+  ] refl
 
-module _ (n : ℕ) (result : Result (Unit {0}) (Unit {0})) (last : List (List ℕ)) (held : List ℕ) where
-  -- a line more is noted
-  one_more : (j : ℕ) (noted xs : List (List ℕ)) (x : List ℕ) → Done j (noted ++ x ∷ []) xs result last held → Done (suc j) noted (x ∷ xs) result last held
-  one_more j noted xs x (inl (few, ok, all)) = inl (omega (arith, few), ok, all ∙ append_assoc noted (x ∷ []) xs)
-  one_more j noted xs x (inr (many, err, front, kept)) =
-      inr (omega (arith, many), err, front ∙ append_assoc noted (x ∷ []) (take (j + 1) xs) ∙ ap (λ (i : ℕ). noted ++ take i (x ∷ xs)) (sym (suc-add j 1)), kept ∙ append_assoc noted (x ∷ []) (take j xs ++ held ∷ []))
+refused : (k n : ℕ) (error : Unit {0}) → Err error ≡ answer (nat_lt k n) → n ≤ k
+refused k n error = elim (nat_lt k n) as (λ b. nat_lt k n ≡ b → Err error ≡ answer b → n ≤ k) [
+    | true ↦ λ is err. cc
+    | false ↦ λ is err. grind (arith, nat_tests, is)
+  ] refl
 
-  -- by whether the first of them is the next to be refused
-  first : (k : ℕ) (noted xs : List (List ℕ)) (x : List ℕ) → n ≡ length noted + k → ((j : ℕ) (g : List (List ℕ)) → n ≡ length g + j → Handed (NotesLine n) g xs result last held → Done j g xs result last held)
-      → Handed (NotesLine n) noted (x ∷ xs) result last held → Done k noted (x ∷ xs) result last held
-  first zero noted xs x e others (inl (g, (ok, _), _)) =
-      let full : nat_lt (length noted) n ≡ false = grind (arith, common_steps, nat_tests, e) in
-      absurd (differ (ok ∙ ap (λ (b : Bool). cond b (Ok tt) (Err tt)) full))
-  first zero noted xs x e others (inr (error, (_, new), failed, is)) = inr (omega arith, failed, new, new ∙ ap (λ (t : List ℕ). noted ++ t ∷ []) (sym is))
-  first (suc j) noted xs x e others (inl (g, (_, new), rest)) =
-      let more : length (noted ++ x ∷ []) ≡ length noted + 1 = length-append noted (x ∷ []) in
-      one_more j noted xs x (others j (noted ++ x ∷ []) (omega (arith, e, more)) (subst (λ (t : List (List ℕ)). Handed (NotesLine n) t xs result last held) new rest))
-  first (suc j) noted xs x e others (inr (error, (err, _), _, _)) =
-      let room : nat_lt (length noted) n ≡ true = grind (arith, common_steps, nat_tests, e) in
-      absurd (differ (sym (err ∙ ap (λ (b : Bool). cond b (Ok tt) (Err tt)) room)))
-
-  noted_lines : (xs noted : List (List ℕ)) (k : ℕ) → n ≡ length noted + k → Handed (NotesLine n) noted xs result last held → Done k noted xs result last held
-  noted_lines [] noted k e (ok, same) = inl (omega arith, ok, same ∙ sym (append-nil noted))
-  noted_lines (x ∷ xs) noted k e h = first k noted xs x e (λ j g. noted_lines xs g j) h
+module _ (n : ℕ) where
+  -- lines that were taken are noted, and are not more than n
+  noted_taken : (xs noted after : List (List ℕ)) → length noted ≤ n → FoldsTo (λ p x q. NotesLine n p x (Ok tt) q) noted xs after → (after ≡ noted ++ xs) × (length after ≤ n)
+  noted_taken [] noted after few is = (sym is ∙ sym (append-nil noted), subst (λ (t : List (List ℕ)). length t ≤ n) is few)
+  noted_taken (x ∷ xs) noted after few (j, (ok, new), others) =
+      let one : length (noted ++ x ∷ []) ≡ length noted + 1 = length-append noted (x ∷ []) in
+      let room : length noted < n = took (length noted) n ok in
+      let rest = noted_taken xs (noted ++ x ∷ []) after (omega (arith, one, room)) (subst (λ (t : List (List ℕ)). FoldsTo (λ p y q. NotesLine n p y (Ok tt) q) t xs after) new others) in
+      (rest.0 ∙ append_assoc noted (x ∷ []) xs, rest.1)
 
 pub lines_noted : LinesNoted
-lines_noted n xs result last held h = noted_lines n result last held xs [] n (omega arith) h
+lines_noted n xs result last held h =
+    let noted = noted_taken n h.taken [] h.after (omega arith) h.calls in
+    elim h.ends [
+      | inl (all, ok, is) ↦ inl (subst (λ (t : List (List ℕ)). length t ≤ n) (noted.0 ∙ sym all) noted.1, ok, is ∙ noted.0 ∙ sym all)
+      | inr (rest, error, split, failed, (err, new)) ↦
+          let full : n ≤ length h.after = refused (length h.after) n error err in
+          let size : n ≡ length h.taken = omega (arith, noted.1, full, ap length noted.0) in
+          let many : length xs ≡ length h.taken + length (held ∷ rest) = ap length split ∙ length-append h.taken (held ∷ rest) in
+          let front : take n xs ≡ h.taken = ap (take n) split ∙ ap (λ (k : ℕ). take k (h.taken ++ held ∷ rest)) size ∙ take-append_seam h.taken (held ∷ rest) in
+          let next : take (n + 1) xs ≡ h.taken ++ held ∷ [] =
+          ap (take (n + 1)) split ∙ ap (λ (k : ℕ). take (k + 1) (h.taken ++ held ∷ rest)) size ∙ take-append-add h.taken (held ∷ rest) 1 in
+          let noted_all : last ≡ h.taken ++ held ∷ [] = new ∙ ap (λ (t : List (List ℕ)). t ++ held ∷ []) noted.0 in
+          inr (omega (arith, size, many), failed, noted_all ∙ sym next, noted_all ∙ ap (λ (t : List (List ℕ)). t ++ held ∷ []) (sym front))
+    ]
 
 abbrev Rest : List ℕ → List ℕ → Result (Unit {0}) (Unit {0}) → List ℕ → Option (List ℕ) → Type 0
 Rest noted bytes result last left = (ys : List ℕ) × (left ≡ Some ys) × (noted ++ bytes ≡ last ++ ys) × OnOk result (ys ≡ [])
