@@ -113,24 +113,24 @@ module _ {F E : Type 0} (Call : F → List ℕ → Result (Unit {0}) E → F →
   pub handed_on : (g : F) (ys new : List ℕ) (r : Result (Unit {0}) E) (last : F) (held : List ℕ) → rest xs ≡ Some ys → new ≡ [] → Call f (take 205 (old ++ line xs)) (Ok tt) g
       → Handed Call g (lines new ys) r last held → Handed Call f (lines old xs) r last held
   handed_on g ys new r last held e n call others = record {
-      taken = take 205 (old ++ line xs) ∷ others.taken;
-      after = others.after;
-      calls = (g, call, others.calls);
-      ends = elim others.ends [
-        | inl (all, ok, is) ↦ inl (lines_with old xs ys new others.taken e n all, ok, is)
-        | inr (rest, error, split, failed, last_call) ↦ inr (rest, error, lines_with old xs ys new (others.taken ++ held ∷ rest) e n split, failed, last_call)
-      ]
-    }
+    taken = take 205 (old ++ line xs) ∷ others.taken;
+    after = others.after;
+    calls = (g, call, others.calls);
+    ends = elim others.ends [
+      | inl (all, ok, is) ↦ inl (lines_with old xs ys new others.taken e n all, ok, is)
+      | inr (rest, error, split, failed, last_call) ↦ inr (rest, error, lines_with old xs ys new (others.taken ++ held ∷ rest) e n split, failed, last_call)
+    ];
+  }
 
   -- the call at the first line refuses it
   pub handed_until : (ys : List ℕ) (error : E) (r : Result (Unit {0}) E) (last : F) (held : List ℕ) → rest xs ≡ Some ys → r ≡ Err error → held ≡ take 205 (old ++ line xs)
       → Call f (take 205 (old ++ line xs)) (Err error) last → Handed Call f (lines old xs) r last held
   handed_until ys error r last held e failed kept call = record {
-      taken = [];
-      after = f;
-      calls = refl;
-      ends = inr (lines [] ys, error, lines_found old xs ys e ∙ ap (λ (t : List ℕ). t ∷ lines [] ys) (sym kept), failed, subst (λ (t : List ℕ). Call f t (Err error) last) (sym kept) call)
-    }
+    taken = [];
+    after = f;
+    calls = refl;
+    ends = inr (lines [] ys, error, lines_found old xs ys e ∙ ap (λ (t : List ℕ). t ∷ lines [] ys) (sym kept), failed, subst (λ (t : List ℕ). Call f t (Err error) last) (sym kept) call);
+  }
 
   -- there is no line
   pub handed_all : (held : List ℕ) → rest xs ≡ None → Handed Call f (lines old xs) (Ok tt) f held

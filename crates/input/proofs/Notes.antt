@@ -1,11 +1,10 @@
 -- What closures have noted that are handed lines, or fed an input.
-use Rattle.std.proofs.Common.{◌≡◌, ℕ, zero, suc, suc-add, ◌+◌, ◌<◌, ◌≤◌, nat_lt, Bool, true, false, cond, List, [], ◌∷◌, ◌++◌, length, take, ◌⊎◌, inl, inr, Option, Some, None, Result, Ok, Err, OnOk, refl, sym, ap, subst, ◌∙◌, arith}
-use Rattle.std.proofs.lemmas.Grind.{common_steps}
+use Rattle.std.proofs.Common.{◌≡◌, ℕ, ◌+◌, ◌<◌, ◌≤◌, nat_lt, Bool, true, false, cond, List, [], ◌∷◌, ◌++◌, length, take, inl, inr, Option, Some, None, Result, Ok, Err, OnOk, refl, sym, ap, subst, ◌∙◌, arith}
 use Rattle.std.proofs.lemmas.Bool.Decides.{nat_tests}
 use Rattle.std.proofs.lemmas.List.{append-nil, append_assoc, length-append}
 use Rattle.std.proofs.Math.Seq.{take-append_seam, take-append-add}
-use Rattle.std.specs.List.{FoldsTo}
-use Rattle.input.specs.Chunks.{Fed}
+use Rattle.std.specs.List.{FoldsTo, concat}
+use Rattle.std.specs.Io.KnownBytes.{Consumes, Keeps, IsAtEnd}
 use Rattle.input.specs.Told.{NotesLine, LinesNoted, NotesChunk, BytesNoted}
 
 abbrev answer : Bool → Result (Unit {0}) (Unit {0})
@@ -14,15 +13,15 @@ answer room = cond room (Ok tt) (Err tt)
 -- a line that is taken had room, and one that is refused had none
 took : (k n : ℕ) → Ok tt ≡ answer (nat_lt k n) → k < n
 took k n = elim (nat_lt k n) as (λ b. nat_lt k n ≡ b → Ok tt ≡ answer b → k < n) [
-    | true ↦ λ is ok. grind (arith, nat_tests, is)
-    | false ↦ λ is ok. cc
-  ] refl
+  | true ↦ λ is ok. grind (arith, nat_tests, is)
+  | false ↦ λ is ok. cc
+] refl
 
 refused : (k n : ℕ) (error : Unit {0}) → Err error ≡ answer (nat_lt k n) → n ≤ k
 refused k n error = elim (nat_lt k n) as (λ b. nat_lt k n ≡ b → Err error ≡ answer b → n ≤ k) [
-    | true ↦ λ is err. cc
-    | false ↦ λ is err. grind (arith, nat_tests, is)
-  ] refl
+  | true ↦ λ is err. cc
+  | false ↦ λ is err. grind (arith, nat_tests, is)
+] refl
 
 module _ (n : ℕ) where
   -- lines that were taken are noted, and are not more than n
@@ -50,8 +49,18 @@ lines_noted n xs result last held h =
           inr (omega (arith, size, many), failed, noted_all ∙ sym next, noted_all ∙ ap (λ (t : List (List ℕ)). t ++ held ∷ []) (sym front))
     ]
 
-abbrev Rest : List ℕ → List ℕ → Result (Unit {0}) (Unit {0}) → List ℕ → Option (List ℕ) → Type 0
-Rest noted bytes result last left = (ys : List ℕ) × (left ≡ Some ys) × (noted ++ bytes ≡ last ++ ys) × OnOk result (ys ≡ [])
+-- the chunks whose calls went on are noted
+noted_chunks : (chunks : List (List ℕ)) (noted after : List ℕ) → FoldsTo (λ p x q. (0 < length x) × NotesChunk p x (Ok true) q) noted chunks after → after ≡ noted ++ concat chunks
+noted_chunks [] noted after is = sym is ∙ sym (append-nil noted)
+noted_chunks (chunk ∷ chunks) noted after (j, (some, (ok, new)), others) =
+    noted_chunks chunks j after others ∙ ap (λ (t : List ℕ). t ++ concat chunks) new ∙ append_assoc noted chunk (concat chunks)
+
+at_last : (bytes front : List ℕ) (rest left : Option (List ℕ)) (result : Result (Unit {0}) (Unit {0})) (last : List ℕ) → Consumes (Some bytes) rest front → last ≡ front → OnOk result (IsAtEnd rest) → Keeps rest left
+    → (ys : List ℕ) × (left ≡ Some ys) × (bytes ≡ last ++ ys) × OnOk result (ys ≡ [])
+at_last bytes front None left result last taken is end kept = absurd taken
+at_last bytes front (Some xs) None result last taken is end kept = absurd kept
+at_last bytes front (Some xs) (Some ys) result last taken is end kept =
+    (ys, refl, taken ∙ ap (λ (t : List ℕ). t ++ xs) (sym is) ∙ ap (λ (t : List ℕ). last ++ t) (sym kept), subst (λ (t : List ℕ). OnOk result (t ≡ [])) (sym kept) end)
 
 enough : (r : Result Bool (Unit {0})) → r ≡ Ok false → ¬ (r ≡ Ok true)
 enough r is e = cc
@@ -59,17 +68,11 @@ enough r is e = cc
 fails : (r : Result Bool (Unit {0})) (error : Unit {0}) → r ≡ Err error → ¬ (r ≡ Ok true)
 fails r error is e = cc
 
-module _ (result : Result (Unit {0}) (Unit {0})) (last : List ℕ) where
-  noted_bytes : (chunks : List (List ℕ)) (noted bytes : List ℕ) (left : Option (List ℕ)) → Fed NotesChunk noted (Some bytes) chunks result last left → Rest noted bytes result last left
-  noted_bytes [] noted bytes None (same, ended, kept) = absurd kept
-  noted_bytes [] noted bytes (Some ys) (same, ended, kept) =
-      (ys, refl, ap (λ (t : List ℕ). t ++ bytes) (sym same) ∙ ap (λ (t : List ℕ). last ++ t) (sym kept), subst (λ (t : List ℕ). OnOk result (t ≡ [])) (sym kept) ended)
-  noted_bytes (chunk ∷ chunks) noted bytes left (some, None, taken, calls) = absurd taken
-  noted_bytes (chunk ∷ chunks) noted bytes left (some, Some ys, taken, inl (g, (ok, new), others)) =
-      let rest = noted_bytes chunks (noted ++ chunk) ys left (subst (λ (t : List ℕ). Fed NotesChunk t (Some ys) chunks result last left) new others) in
-      (rest.0, rest.1, ap (λ (t : List ℕ). noted ++ t) taken ∙ sym (append_assoc noted chunk ys) ∙ rest.2, rest.3)
-  noted_bytes (chunk ∷ chunks) noted bytes left (some, Some ys, taken, inr (none, inl ((ok, new), ends, kept))) = absurd (enough (Ok false) refl ok)
-  noted_bytes (chunk ∷ chunks) noted bytes left (some, Some ys, taken, inr (none, inr (error, (ok, new), ends, kept))) = absurd (fails (Err error) error refl ok)
-
 pub bytes_noted : BytesNoted
-bytes_noted bytes chunks result last left h = noted_bytes result last chunks [] bytes left h
+bytes_noted bytes result last left h =
+    let noted = noted_chunks h.chunks [] h.after h.calls in
+    elim h.ends [
+      | inl (same, end, kept) ↦ at_last bytes (concat h.chunks) h.rest left result last h.front (same ∙ noted) end kept
+      | inr (chunk, some, inl ((ok, new), done, taken)) ↦ absurd (enough (Ok false) refl ok)
+      | inr (chunk, some, inr (error, (ok, new), failed, front, kept)) ↦ absurd (fails (Err error) error refl ok)
+    ]

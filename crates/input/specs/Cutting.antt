@@ -1,6 +1,6 @@
 -- A text cut at its first line feed. Assumes nothing.
-use Rattle.std.specs.List.{FoldsTo}
 use Rattle.std.specs.Prelude.{◌≡◌, ℕ, ◌+◌, Bool, true, false, cond, List, [], ◌∷◌, ◌++◌, ◌⊎◌, length, take, drop, Some, None, Option, option_map, Ok, Err, Result, ◌==◌}
+use Rattle.std.specs.List.{FoldsTo}
 
 -- the bytes before the first line feed, or all
 abbrev pub line : List ℕ → List ℕ

@@ -3,6 +3,7 @@ use Rattle.std.specs.Prelude.{◌≡◌, ℕ, ◌+◌, ◌<◌, ◌≤◌, nat_l
 use Rattle.input.specs.Cutting.{lines, left, Handed}
 use Rattle.input.specs.Chunks.{Fed}
 
+-- samples of cutting
 pub record CutTold : Type 0 where
   -- a line that two chunks make up, and one behind it
   pub over_two : lines (codes "ab") (codes "c" ++ 10 ∷ codes "de" ++ 10 ∷ codes "f") ≡ codes "abc" ∷ (codes "de" ∷ [])
@@ -29,5 +30,5 @@ NotesChunk noted chunk result new = (result ≡ Ok true) × (new ≡ noted ++ ch
 
 -- fed an input whose bytes are known, it has noted those that are not left, in order and once; none is left at the end
 abbrev pub BytesNoted : Type 0
-BytesNoted = (bytes : List ℕ) (chunks : List (List ℕ)) (result : Result (Unit {0}) (Unit {0})) (last : List ℕ) (left : Option (List ℕ)) → Fed NotesChunk [] (Some bytes) chunks result last left
+BytesNoted = (bytes : List ℕ) (result : Result (Unit {0}) (Unit {0})) (last : List ℕ) (left : Option (List ℕ)) → Fed NotesChunk [] (Some bytes) result last left
     → (ys : List ℕ) × (left ≡ Some ys) × (bytes ≡ last ++ ys) × OnOk result (ys ≡ [])

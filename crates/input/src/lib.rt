@@ -14,9 +14,9 @@ pub mod reading;
 // One byte more than the longest line has, so that a longer one is still seen to be too long.
 pub const KEEP: usize = 205;
 
-// Carries theorems alone; what it answers means nothing. Samples of cutting follow from the definitions; and what the
-// clauses of `each_line` and `each_chunk` say of calls is told by closures that note what they are handed: they have noted
-// it in order and once, and nothing else.
+// Carries theorems alone; what it answers means nothing. Samples of cutting follow from the definitions. And by the
+// words of the clauses of `each_line` and `each_chunk`, a closure that notes what it is handed has noted, in order and
+// once, the lines up to the one that it refuses, or the bytes that are no longer left, and nothing else.
 pub fn cutting_told() -> u8
     ensures samples { CutTold }
     ensures lines { LinesNoted }
@@ -98,7 +98,8 @@ impl Cutter {
         Some(&chunk[n + 1..])
     }
 
-    // Hands each line that ends in the chunk to `each`, until a call of it fails, and keeps what follows the last.
+    // Hands each line that ends in the chunk to `each`, and keeps what follows the last. A line that it refuses is the
+    // last one handed on, and is held. By `&mut`, so that a clause can name what all calls made of `each`.
     pub fn each_line<E, F: FnMut(&[u8]) -> Result<(), E>>(
         &mut self,
         chunk: &[u8],
