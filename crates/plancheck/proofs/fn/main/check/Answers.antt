@@ -1,6 +1,6 @@
 use Rattle.std.proofs.Common.{rules}
 use Rattle.input.proofs.Cuts.{handed_keeps}
-use Rattle.plancheck.proofs.fn.main.each_chunk.Goals as goal
+use Rattle.plancheck.proofs.fn.main.check.Goals as goal
 
 -- no call puts another reference in the place of the pairs, which the closure holds first
 pub shape_of : goal.shape_of
