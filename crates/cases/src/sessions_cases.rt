@@ -21,11 +21,12 @@ fn answers(lines: &[u8], expected: &[u8]) -> bool {
     let mut session = Session::new();
     let mut number: i32 = 0;
     let mut expected = expected;
-    let told = Cutter::new().each_line(lines, |line| -> Result<(), ()> {
+    let mut answered = |line: &[u8]| -> Result<(), ()> {
         number = number.saturating_add(1);
         expected = reply(&mut session, number, line, expected).ok_or(())?;
         Ok(())
-    });
+    };
+    let told = Cutter::new().each_line(lines, &mut answered);
     told == Ok(()) && expected.is_empty()
 }
 

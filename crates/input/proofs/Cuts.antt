@@ -1,6 +1,6 @@
 -- A text cut at its first line feed, where a search for it stops, and over chunks.
 use Rattle.std.proofs.Common.{◌≡◌, ℕ, ◌+◌, ◌-◌, ◌≤◌, min, Bool, true, false, cond, eqb, ltb, List, [], ◌∷◌, ◌++◌, length, take, drop, Option, Result, Some, None, Ok, Err, position, option_map, suc, suc-add, sym, refl, ap, subst, inl, inr, ◌∙◌, arith}
-use Rattle.std.specs.List.{position_or_len}
+use Rattle.std.specs.List.{position_or_len, FoldsTo}
 use Rattle.std.proofs.lemmas.Grind.{common_steps}
 use Rattle.std.proofs.lemmas.List.{take_all, take_min, append-nil, append_assoc}
 use Rattle.std.proofs.Math.Seq.{take-append-add}
@@ -102,18 +102,50 @@ left_missed held (b ∷ xs) =
 pub left_on : (held xs ys new : List ℕ) → rest xs ≡ Some ys → new ≡ [] → left new ys ≡ left held xs
 left_on held xs ys new e n = ap (λ (t : List ℕ). left t ys) n ∙ sym (left_found held xs ys e)
 
-module _ {F E : Type 0} (Call : F → List ℕ → Result (Unit {0}) E → F → Type 0) (f g : F) (held xs ys : List ℕ) where
-  -- the call at the first line is done, and those at the others end in r
-  pub handed_on : (new : List ℕ) (r : Result (Unit {0}) E) → rest xs ≡ Some ys → new ≡ [] → Call f (take 205 (held ++ line xs)) (Ok tt) g → Handed Call g (lines new ys) r → Handed Call f (lines held xs) r
-  handed_on new r e n call others =
-      subst (λ (ls : List (List ℕ)). Handed Call f ls r) (sym (lines_found held xs ys e))
-      (inl (g, call, subst (λ (t : List ℕ). Handed Call g (lines t ys) r) n others))
+-- the lines of a text that has a line feed, where others are those that follow the first
+lines_with : (old xs ys new : List ℕ) (others : List (List ℕ)) → rest xs ≡ Some ys → new ≡ [] → lines new ys ≡ others → lines old xs ≡ take 205 (old ++ line xs) ∷ others
+lines_with old xs ys new others e n is =
+    let one : List ℕ = take 205 (old ++ line xs) in
+    lines_found old xs ys e ∙ ap (λ (t : List (List ℕ)). one ∷ t) (ap (λ (t : List ℕ). lines t ys) (sym n) ∙ is)
 
-  -- the call at the first line fails
-  pub handed_until : (error : E) (r : Result (Unit {0}) E) → rest xs ≡ Some ys → r ≡ Err error → Call f (take 205 (held ++ line xs)) (Err error) g → Handed Call f (lines held xs) r
-  handed_until error r e failed call =
-      subst (λ (ls : List (List ℕ)). Handed Call f ls r) (sym (lines_found held xs ys e)) (inr (error, g, call, failed))
+module _ {F E : Type 0} (Call : F → List ℕ → Result (Unit {0}) E → F → Type 0) (f : F) (old xs : List ℕ) where
+  -- the call at the first line is done, and those at the others end in r
+  pub handed_on : (g : F) (ys new : List ℕ) (r : Result (Unit {0}) E) (last : F) (held : List ℕ) → rest xs ≡ Some ys → new ≡ [] → Call f (take 205 (old ++ line xs)) (Ok tt) g
+      → Handed Call g (lines new ys) r last held → Handed Call f (lines old xs) r last held
+  handed_on g ys new r last held e n call others = record {
+    taken = take 205 (old ++ line xs) ∷ others.taken;
+    after = others.after;
+    calls = (g, call, others.calls);
+    ends = elim others.ends [
+      | inl (all, ok, is) ↦ inl (lines_with old xs ys new others.taken e n all, ok, is)
+      | inr (rest, error, split, failed, last_call) ↦ inr (rest, error, lines_with old xs ys new (others.taken ++ held ∷ rest) e n split, failed, last_call)
+    ];
+  }
+
+  -- the call at the first line refuses it
+  pub handed_until : (ys : List ℕ) (error : E) (r : Result (Unit {0}) E) (last : F) (held : List ℕ) → rest xs ≡ Some ys → r ≡ Err error → held ≡ take 205 (old ++ line xs)
+      → Call f (take 205 (old ++ line xs)) (Err error) last → Handed Call f (lines old xs) r last held
+  handed_until ys error r last held e failed kept call = record {
+    taken = [];
+    after = f;
+    calls = refl;
+    ends = inr (lines [] ys, error, lines_found old xs ys e ∙ ap (λ (t : List ℕ). t ∷ lines [] ys) (sym kept), failed, subst (λ (t : List ℕ). Call f t (Err error) last) (sym kept) call);
+  }
 
   -- there is no line
-  pub handed_all : rest xs ≡ None → Handed Call f (lines held xs) (Ok tt)
-  handed_all e = subst (λ (ls : List (List ℕ)). Handed Call f ls (Ok tt)) (sym (lines_missed held xs e)) refl
+  pub handed_all : (held : List ℕ) → rest xs ≡ None → Handed Call f (lines old xs) (Ok tt) f held
+  handed_all held e = record { taken = []; after = f; calls = refl; ends = inl (lines_missed old xs e, refl, refl) }
+
+-- what no call changes is in the end as it was
+module _ {F E N : Type 0} (Call : F → List ℕ → Result (Unit {0}) E → F → Type 0) (part : F → N) (same : (p : F) (x : List ℕ) (s : Result (Unit {0}) E) (q : F) → Call p x s q → part p ≡ part q) where
+  taken_keep : (xs : List (List ℕ)) (f g : F) → FoldsTo (λ p x q. Call p x (Ok tt) q) f xs g → part f ≡ part g
+  taken_keep [] f g is = ap part is
+  taken_keep (x ∷ xs) f g (j, call, others) = same f x (Ok tt) j call ∙ taken_keep xs j g others
+
+pub handed_keeps : {F E N : Type 0} {Call : F → List ℕ → Result (Unit {0}) E → F → Type 0} {f : F} {xs : List (List ℕ)} {r : Result (Unit {0}) E} {last : F} {held : List ℕ} → Handed Call f xs r last held
+    → (part : F → N) → ((p : F) (x : List ℕ) (s : Result (Unit {0}) E) (q : F) → Call p x s q → part p ≡ part q) → part f ≡ part last
+handed_keeps {F} {E} {N} {Call} {f} {xs} {r} {last} {held} h part same =
+    taken_keep Call part same h.taken f h.after h.calls ∙ elim h.ends [
+      | inl (all, ok, is) ↦ sym (ap part is)
+      | inr (rest, error, split, failed, call) ↦ same h.after held (Err error) last call
+    ]

@@ -1,5 +1,6 @@
 -- A text cut at its first line feed. Assumes nothing.
 use Rattle.std.specs.Prelude.{◌≡◌, ℕ, ◌+◌, Bool, true, false, cond, List, [], ◌∷◌, ◌++◌, ◌⊎◌, length, take, drop, Some, None, Option, option_map, Ok, Err, Result, ◌==◌}
+use Rattle.std.specs.List.{FoldsTo}
 
 -- the bytes before the first line feed, or all
 abbrev pub line : List ℕ → List ℕ
@@ -29,8 +30,12 @@ abbrev pub left : List ℕ → List ℕ → List ℕ
 left held [] = take 205 held
 left held (b ∷ bytes) = cond (b == 10) (left [] bytes) (left (held ++ b ∷ []) bytes)
 
--- a call at each line in turn, until one fails; it ends in the result
-abbrev pub Handed : {F E : Type 0} → (F → List ℕ → Result (Unit {0}) E → F → Type 0) → F → List (List ℕ) → Result (Unit {0}) E → Type 0
-Handed Call f [] result = result ≡ Ok tt
-Handed {F} {E} Call f (x ∷ xs) result =
-    ((g : F) × Call f x (Ok tt) g × Handed Call g xs result) ⊎ ((e : E) × (g : F) × Call f x (Err e) g × (result ≡ Err e))
+-- a call at each line in turn, until one refuses a line. No other call is made: these lead from f to last
+pub record Handed {F E : Type 0} (Call : F → List ℕ → Result (Unit {0}) E → F → Type 0) (f : F) (xs : List (List ℕ)) (result : Result (Unit {0}) E) (last : F) (held : List ℕ) : Type 0 where
+  -- the lines that were taken, and what their calls make of f
+  pub taken : List (List ℕ)
+  pub after : F
+  pub calls : FoldsTo (λ p x q. Call p x (Ok tt) q) f taken after
+  -- these are all, or the call at the next refuses it; then it is held
+  pub ends : ((xs ≡ taken) × (result ≡ Ok tt) × (last ≡ after))
+      ⊎ ((rest : List (List ℕ)) × (error : E) × (xs ≡ taken ++ held ∷ rest) × (result ≡ Err error) × Call after held (Err error) last)

@@ -5,6 +5,7 @@
 ghost use Rattle.std.specs.Prelude.{◌≡◌, ◌<◌, ◌≤◌, ◌++◌, ◌==◌, [], length, take, position, option_copied, IfSome, OnOk};
 ghost use Rattle.std.specs.Fn.{CalledAt};
 ghost use Rattle.input.specs.Cutting.{line as line_part, rest, lines, left, Handed};
+ghost use Rattle.input.specs.Told.{CutTold, LinesNoted, BytesNoted};
 
 use std::marker::Model;
 
@@ -12,6 +13,17 @@ pub mod reading;
 
 // One byte more than the longest line has, so that a longer one is still seen to be too long.
 pub const KEEP: usize = 205;
+
+// Carries theorems alone; what it answers means nothing. Samples of cutting follow from the definitions. And by the
+// words of the clauses of `each_line` and `each_chunk`, a closure that notes what it is handed has noted, in order and
+// once, the lines up to the one that it refuses, or the bytes that are no longer left, and nothing else.
+pub fn cutting_told() -> u8
+    ensures samples { CutTold }
+    ensures lines { LinesNoted }
+    ensures bytes { BytesNoted }
+{
+    0
+}
 
 // The line so far, at most its first 205 bytes: clauses see these bytes. An array with a length: the memory is fixed, with
 // no heap.
@@ -86,15 +98,17 @@ impl Cutter {
         Some(&chunk[n + 1..])
     }
 
-    // Hands each line that ends in the chunk to `each`, until a call of it fails, and keeps what follows the last.
+    // Hands each line that ends in the chunk to `each`, and keeps what follows the last. A line that it refuses is the
+    // last one handed on, and is held. By `&mut`, so that a clause can name what all calls made of `each`.
     pub fn each_line<E, F: FnMut(&[u8]) -> Result<(), E>>(
         &mut self,
         chunk: &[u8],
-        mut each: F,
+        each: &mut F,
     ) -> Result<(), E>
-        requires { F.IsAlwaysCallable each }
-        ensures handed { Handed (CalledAt F.FnMut) each (lines self.old chunk.now) result }
+        requires { F.IsAlwaysCallable each.old }
+        ensures handed { Handed (CalledAt F.FnMut) each.old (lines self.old chunk.now) result each.new self.new }
         ensures kept { OnOk result (self.new ≡ left self.old chunk.now) }
+        ensures again { F.IsAlwaysCallable each.new }
     {
         let mut text = chunk;
         while let Some(rest) = self.feed(text) {

@@ -1,19 +1,19 @@
 // Reading an input to its end, a chunk at a time.
-ghost use Rattle.std.specs.Prelude.{List, ℕ, IfSome, OnOk};
 ghost use Rattle.std.specs.Fn.{CalledAt};
 ghost use Rattle.input.specs.Chunks.{Fed};
 
 use std::io;
 use std::io::BufRead;
 
-// Hands each chunk of the input to `each`, until the input is at its end or a call answers false: it has enough.
+// Hands each chunk of the input to `each`, until the input is at its end or a call answers false: it has enough. A
+// chunk whose call fails is not taken from the input.
 pub fn each_chunk<R: BufRead, F: FnMut(&[u8]) -> io::Result<bool>>(
     input: &mut R,
-    mut each: F,
+    each: &mut F,
 ) -> io::Result<()>
-    requires { F.IsAlwaysCallable each }
-    ensures { OnOk result (IfSome (R.remaining input.old) (λ bytes.
-        (chunks : List (List ℕ)) × Fed (CalledAt F.FnMut) each bytes chunks)) }
+    requires { F.IsAlwaysCallable each.old }
+    ensures fed { Fed (CalledAt F.FnMut) each.old (R.remaining input.old) result each.new (R.remaining input.new) }
+    ensures again { F.IsAlwaysCallable each.new }
 {
     // Counted, since a reader says nothing of what is left that would end a loop; the label names the loop in its proof.
     'chunks: for _ in 0..u64::MAX {

@@ -47,11 +47,12 @@ fn main(rt: HostRuntime) -> io::Result<()> {
     let mut out = BufWriter::new(rt.alloc(), rt.stdout())?;
     let mut cutter = Cutter::new();
     let mut pairs = Pairs::default();
-    each_chunk(&mut input, |chunk| {
-        cutter.each_line(chunk, |line| pairs.take(line, &mut out))?;
+    let mut check = |chunk: &[u8]| -> io::Result<bool> {
+        cutter.each_line(chunk, &mut |line| pairs.take(line, &mut out))?;
         out.flush()?;
         Ok(true)
-    })?;
+    };
+    each_chunk(&mut input, &mut check)?;
     // A last line that lacks its line feed counts if it has a byte.
     if !cutter.line().is_empty() {
         pairs.take(cutter.line(), &mut out)?;

@@ -58,11 +58,12 @@ fn main(rt: HostRuntime) -> io::Result<()> {
     let mut out = BufWriter::new(rt.alloc(), rt.stdout())?;
     let mut cutter = Cutter::new();
     let mut desk = Desk::new();
-    each_chunk(&mut input, |chunk| {
-        cutter.each_line(chunk, |line| desk.answer(line, &mut out))?;
+    let mut answer = |chunk: &[u8]| -> io::Result<bool> {
+        cutter.each_line(chunk, &mut |line| desk.answer(line, &mut out))?;
         out.flush()?;
         Ok(!desk.is_done())
-    })?;
+    };
+    each_chunk(&mut input, &mut answer)?;
     // A last line that lacks its line feed counts if it has a byte.
     if !cutter.line().is_empty() {
         desk.answer(cutter.line(), &mut out)?;

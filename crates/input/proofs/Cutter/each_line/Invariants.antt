@@ -7,7 +7,7 @@ use Rattle.input.proofs.Cutter.each_line.Given as goal
 abbrev pub invariant-loop-rest : goal.invariant-loop-rest
 invariant-loop-rest g l =
     goal.F-IsAlwaysCallable g l.each
-    × ((result : _) → Handed (CalledAt g.F.FnMut) l.each (lines l.self l.text) result → Handed (CalledAt g.F.FnMut) l.fn.each (lines l.fn.self l.fn.chunk) result)
+    × ((result : _) (last : _) (held : _) → Handed (CalledAt g.F.FnMut) l.each (lines l.self l.text) result last held → Handed (CalledAt g.F.FnMut) l.fn.each (lines l.fn.self l.fn.chunk) result last held)
     × (left l.self l.text ≡ left l.fn.self l.fn.chunk)
 
 abbrev pub decreases-loop-rest : goal.decreases-loop-rest
