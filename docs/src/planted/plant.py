@@ -111,21 +111,36 @@ def plant(copy, every):
     return {(m[1], int(m[2])): m[3] for m in re.finditer(r"^(?:rt: )*must-fail (\w+)/(\d+)\.edit: (.*)$", said, re.M)}
 
 
-def shown(copy, bug):
-    """Where a bug that the check lets pass shows: in a program's output, or in a test; None where it does not."""
+PROGRAMS = {"sheet": ["{copy}/model"], "plancheck": ["python3", "{root}/docs/src/plancheck/model.py"], "walkthrough": []}
+
+
+def shown_by(root, copy, crate):
+    """Whether the crate's check, or what its program writes, shows the bug that is planted below it or in it."""
+    folder = f"{copy}/crates/{crate}"
+    given = f"{folder}/stdin"
+    with open(given if os.path.exists(given) else os.devnull, "rb") as lines:
+        run = subprocess.run(["rt", "run"], cwd=folder, stdin=lines, capture_output=True)
+    if b"logic=not-proved" in run.stdout + run.stderr:
+        return f"the check of `{crate}`"
+    if run.returncode or run.stdout != open(f"{folder}/stdout", "rb").read():
+        return f"the stored output of `{crate}`"
+    model = [word.format(root=root, copy=copy) for word in PROGRAMS[crate]]
+    edges = ["python3", f"{root}/docs/src/edges/edges.py", crate, f"{folder}/out/{crate}", *model]
+    run = subprocess.run(edges, capture_output=True, text=True)
+    return f"`docs/src/edges/run`: {run.stdout.splitlines()[0]}" if run.returncode else None
+
+
+def shown(root, copy, bug):
+    """Where a bug that the check lets pass shows: above, in a program's output, or in a test; None where it does not."""
     target = f"{copy}/crates/{bug.crate}/{bug.path}"
     text = open(target).read()
     with open(target, "w") as file:
         file.write(bug.edited(text))
     try:
-        for crate in [bug.crate, "sheet", "walkthrough", "plancheck"]:
-            folder = f"{copy}/crates/{crate}"
-            if os.path.exists(f"{folder}/stdout"):
-                given = f"{folder}/stdin"
-                with open(given if os.path.exists(given) else os.devnull, "rb") as lines:
-                    run = subprocess.run(["rt", "run"], cwd=folder, stdin=lines, capture_output=True)
-                if run.returncode or run.stdout != open(f"{folder}/stdout", "rb").read():
-                    return f"the output of `{crate}`"
+        for crate in [bug.crate] if bug.crate in PROGRAMS else PROGRAMS:
+            where = shown_by(root, copy, crate)
+            if where:
+                return where
         run = subprocess.run(["rt", "test"], cwd=f"{copy}/crates/cases", capture_output=True)
         return "a test of `cases`" if run.returncode else None
     finally:
@@ -133,12 +148,12 @@ def shown(copy, bug):
             file.write(text)
 
 
-def outcome(copy, bug, said):
+def outcome(root, copy, bug, said):
     """Where the bug is refused, and whether that counts."""
     if said is None or "BAD EDIT" in said or "NOT TRIED" in said:
         return f"**not tried**: {said}", False
     if "NOT REFUSED" in said:
-        where = shown(copy, bug)
+        where = shown(root, copy, bug)
         return (where, True) if where else ("**nowhere**", False)
     where = re.search(r"(?:\./)?((?:src|proofs|specs)/[\w/]+\.\w+):(\d+):\d+: ", said)
     place = f"`{where[1]}:{where[2]}`" if where else "see the log"
@@ -166,7 +181,7 @@ def main():
         places = [place_of(root, bug) for bug in bugs]
         lacking += [f"{crate}: {name}: no bug" for name in without_bug(root, crate, set(places))]
         for number, (bug, place) in enumerate(zip(bugs, places)):
-            where, counts = outcome(copy, bug, said.get((crate, number)))
+            where, counts = outcome(root, copy, bug, said.get((crate, number)))
             planted += 1
             survived += not counts
             print(f"{crate}: {place}: {bug.what}: {where}", flush=True)
