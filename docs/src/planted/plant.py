@@ -2,7 +2,7 @@
 """Plants bugs in a copy of the repository: plant.py ROOT COPY TABLE [CRATE...]. See run.
 
 Each bug becomes a must-fail edit of the copy, so that the gate's own command says whether the prover refuses it. One that
-the prover lets pass must show in what a program or a test says. TABLE is written anew unless crates are named.
+the prover lets pass must show in what a program or a test says. The crates' parts of TABLE are written anew.
 """
 import os
 import re
@@ -14,9 +14,9 @@ HEAD = """# Planted bugs
 
 Bugs that were planted one at a time, and where each was refused. The bugs stand in `docs/src/planted/bugs/`, at least one
 for each function of `src/` that has a body, and this page is what `docs/src/planted/run` made of them. Planted in a crate,
-a bug is refused by that crate's own check, with the crates above left out of it; the place is where the first need or
-clause is that could not be proved. Where the check passes, as where a contract cannot say what a program prints, the bug
-must show in a stored output or in a test, and the table says in which.
+a bug is refused by that crate's own check, with the crates above left out of it; told are the file and the prover's name
+of the first need that could not be met. Where the check passes, as where a contract cannot say what a program prints, the
+bug must show in a crate above, in what a program writes or in a test, and the table says in which.
 """
 
 
@@ -155,15 +155,23 @@ def outcome(root, copy, bug, said):
     if "NOT REFUSED" in said:
         where = shown(root, copy, bug)
         return (where, True) if where else ("**nowhere**", False)
-    where = re.search(r"(?:\./)?((?:src|proofs|specs)/[\w/]+\.\w+):(\d+):\d+: ", said)
-    place = f"`{where[1]}:{where[2]}`" if where else "see the log"
-    if "only because a proof file names" in said:
-        return f"{place}, by a name", True
-    return place, True
+    where = re.search(r"(?:\./)?((?:src|proofs|specs)/[\w/]+\.\w+):\d+:\d+: ", said)
+    need = re.search(r"\(`([\w+-]+)`\)|error: `([\w+-]+)`", said)
+    place = f"`{where[1]}`" if where else "see the log"
+    place += f", `{need[1] or need[2]}`" if need else ""
+    return place + (", by a name" if "only because a proof file names" in said else ""), True
 
 
 def code(text):
     return "`" + text.replace("|", "\\|") + "`" if text else "nothing"
+
+
+def sections(table):
+    """The crates' parts of the page as it stands."""
+    if not os.path.exists(table):
+        return {}
+    parts = open(table).read().split("\n## ")[1:]
+    return {part.split("\n", 1)[0]: part.split("\n", 1)[1].strip("\n") + "\n" for part in parts}
 
 
 def main():
@@ -175,23 +183,23 @@ def main():
     for crate, bugs in every.items():
         fitting(root, crate, bugs)
     said = plant(copy, every)
-    text, planted, survived, lacking = [HEAD], 0, 0, []
+    pages, survived, lacking = sections(table), 0, []
     for crate, bugs in every.items():
-        text += [f"\n## {crate}\n", "| function | what the bug does | the edit | refused at |", "| --- | --- | --- | --- |"]
+        text = ["| function | what the bug does | the edit | refused at |", "| --- | --- | --- | --- |"]
         places = [place_of(root, bug) for bug in bugs]
         lacking += [f"{crate}: {name}: no bug" for name in without_bug(root, crate, set(places))]
         for number, (bug, place) in enumerate(zip(bugs, places)):
             where, counts = outcome(root, copy, bug, said.get((crate, number)))
-            planted += 1
             survived += not counts
             print(f"{crate}: {place}: {bug.what}: {where}", flush=True)
             edits = "; ".join(f"{code(old)} → {code(new)}" for old, new in bug.pairs)
             text.append(f"| `{place}` | {bug.what} | {edits} | {where} |")
-    print("\n".join([*lacking, f"{planted} planted, {survived} survived, {len(lacking)} functions without a bug"]))
-    text.insert(1, f"\n{planted} were planted; {survived or 'none'} survived.\n")
-    if not wanted:
-        with open(table, "w") as file:
-            file.write("\n".join(text).replace("\n\n\n", "\n\n") + "\n")
+        pages[crate] = "\n".join(text) + "\n"
+    tried = sum(len(bugs) for bugs in every.values())
+    print("\n".join([*lacking, f"{tried} planted, {survived} survived, {len(lacking)} functions without a bug"]))
+    with open(table, "w") as file:
+        file.write(HEAD)
+        file.writelines(f"\n## {crate}\n\n{pages[crate]}" for crate in crates if crate in pages)
     sys.exit(survived != 0 or len(lacking) != 0)
 
 
