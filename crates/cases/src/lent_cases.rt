@@ -29,8 +29,8 @@ fn cells_of_every_length(rt: HostRuntime) {
     assert!(rt; (0..21).all(|len| opens_in(len)));
 }
 
-// Words for another number of unknowns, a choice for another number of moves, and a plan of another length are refused by
-// 9, and the plan's words are kept.
+// Words for another number of unknowns, a choice for another number of moves, and a plan of another length are refused
+// by 9, and the plan's words are kept.
 fn counts_are_tested(len: usize) -> bool {
     let mut cells = [MARK; 15];
     let words = [3, 5, 1, 3, 5, 1];

@@ -13,8 +13,8 @@ pub mod reading;
 // One byte more than the longest line has, so that a longer one is still seen to be too long.
 pub const KEEP: usize = 205;
 
-// The line so far, at most its first 205 bytes: clauses see these bytes. An array with a length: the memory is fixed, with
-// no heap.
+// The line so far, at most its first 205 bytes: clauses see these bytes. An array with a length: the memory is fixed,
+// with no heap.
 #[derive(Drop)]
 pub struct Cutter {
     held: [u8; KEEP],

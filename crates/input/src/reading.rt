@@ -15,7 +15,8 @@ pub fn each_chunk<R: BufRead, F: FnMut(&[u8]) -> io::Result<bool>>(
     ensures { OnOk result (IfSome (R.remaining input.old) (λ bytes.
         (chunks : List (List ℕ)) × Fed (CalledAt F.FnMut) each bytes chunks)) }
 {
-    // Counted, since a reader says nothing of what is left that would end a loop; the label names the loop in its proof.
+    // Counted: nothing that a reader says of what is left would show that a plain loop ends. The label names the loop
+    // in its proof.
     'chunks: for _ in 0..u64::MAX {
         let chunk = input.fill_buf()?;
         let len = chunk.len();

@@ -48,8 +48,8 @@ def bugs_of(folder, crate):
 
 
 def functions(path):
-    """The functions of a file that do something: name, first and last line. Tests are left out, and those that only carry
-    a theorem, whose body is 0."""
+    """The functions of a file that do something: name, first and last line. Tests are left out, and those that only
+    carry a theorem, whose body is 0."""
     lines, owner, test = open(path).read().split("\n"), "", False
     for i, line in enumerate(lines):
         owned = re.match(r"(?:pub )?trait (\w+)", line) or re.match(r"impl\b.*? (?:.*\bfor )?(?:\w+::)*(\w+)(<.*>)? \{", line)
