@@ -1,8 +1,8 @@
 #!/usr/bin/env python3
 """Plants bugs in a copy of the repository: plant.py ROOT COPY TABLE [CRATE...]. See run.
 
-Each bug becomes a must-fail edit of the copy, so that the gate's own command says whether the prover refuses it. One that
-the prover lets pass must show in what a program or a test says. TABLE is written anew unless crates are named.
+Each bug becomes a must-fail edit of the copy, so that the gate's own command says whether the prover refuses it. One
+that the prover lets pass must show in what a program or a test says. TABLE is written anew unless crates are named.
 """
 import os
 import re
