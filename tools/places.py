@@ -1,6 +1,7 @@
-"""Lists the places of older forms in src/: places.py [-v] [COMMIT]. docs/DESIGN-PASS.md says what each count means.
+"""Lists the places of older forms in src/, as they stand in COMMIT, or HEAD: places.py [-v] [COMMIT].
 
-It goes by text alone: a row is a place to read and no verdict. With -v each place is printed.
+docs/DESIGN-PASS.md says what each count means. It goes by text alone: a row is a place to read and no verdict. With -v
+each place is printed.
 """
 import re
 import subprocess

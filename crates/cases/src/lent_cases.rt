@@ -19,9 +19,15 @@ fn opens_in(len: usize) -> bool {
     let posted = sheet.post(&[3, 5, 1]).map_err(|fault| fault.number());
     let moves = sheet.outline().moves();
     if len < 15 {
-        return told == Err(13) && posted == Err(8) && moves == 0 && cells.iter().all(|cell| *cell == MARK);
+        return told == Err(13)
+            && posted == Err(8)
+            && moves == 0
+            && cells.iter().all(|cell| *cell == MARK);
     }
-    told == Ok(()) && posted == Ok(Verdict::Taken) && moves == 1 && cells[15..].iter().all(|cell| *cell == MARK)
+    told == Ok(())
+        && posted == Ok(Verdict::Taken)
+        && moves == 1
+        && cells[15..].iter().all(|cell| *cell == MARK)
 }
 
 #[test]
@@ -29,8 +35,8 @@ fn cells_of_every_length(rt: HostRuntime) {
     assert!(rt; (0..21).all(|len| opens_in(len)));
 }
 
-// Words for another number of unknowns, a choice for another number of moves, and a plan of another length are refused by
-// 9, and the plan's words are kept.
+// Words for another number of unknowns, a choice for another number of moves, and a plan of another length are refused
+// by 9, and the plan's words are kept.
 fn counts_are_tested(len: usize) -> bool {
     let mut cells = [MARK; 15];
     let words = [3, 5, 1, 3, 5, 1];
@@ -42,8 +48,12 @@ fn counts_are_tested(len: usize) -> bool {
     if sheet.outline().moves() == 2 {
         return len != 3 && posted == Err(9);
     }
-    let long = sheet.pick(&choice[..len], &mut plan[..2]).map_err(|fault| fault.number());
-    let short = sheet.pick(&choice[..1], &mut plan[..len]).map_err(|fault| fault.number());
+    let long = sheet
+        .pick(&choice[..len], &mut plan[..2])
+        .map_err(|fault| fault.number());
+    let short = sheet
+        .pick(&choice[..1], &mut plan[..len])
+        .map_err(|fault| fault.number());
     posted == Ok(Verdict::Taken) && long == Err(9) && short == Err(9) && plan == [7; 6]
 }
 
@@ -94,10 +104,17 @@ fn answers_into(len: usize, count: usize) -> bool {
     let mut out = [0xAAu8; 4960];
     let mut words = [7i32; 30];
     let told = session
-        .call(1, b"0103000000000000000200000001", &mut out[..len.min(4960)], &mut words[..count.min(30)])
+        .call(
+            1,
+            b"0103000000000000000200000001",
+            &mut out[..len.min(4960)],
+            &mut words[..count.min(30)],
+        )
         .map_err(|fault| fault.number());
     if len < OUTPUT || count < MOST_NUMBERS {
-        return told == Err(2) && out.iter().all(|byte| *byte == 0xAA) && words.iter().all(|word| *word == 7);
+        return told == Err(2)
+            && out.iter().all(|byte| *byte == 0xAA)
+            && words.iter().all(|word| *word == 7);
     }
     let behind = out.strip_prefix(b"81030000000100000000FFFFFFFF\n");
     told == Ok(29)
@@ -108,6 +125,10 @@ fn answers_into(len: usize, count: usize) -> bool {
 
 #[test]
 fn outputs_of_every_length(rt: HostRuntime) {
-    assert!(rt; [0, 1, 28, 29, 4953, 4954, 4955, 4960].iter().all(|len| answers_into(*len, 25)));
+    assert!(rt;
+        [0, 1, 28, 29, 4953, 4954, 4955, 4960]
+            .iter()
+            .all(|len| answers_into(*len, 25))
+    );
     assert!(rt; (0..31).all(|count| answers_into(4954, count)));
 }

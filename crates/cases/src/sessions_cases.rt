@@ -30,8 +30,8 @@ fn answers(lines: &[u8], expected: &[u8]) -> bool {
     told == Ok(()) && expected.is_empty()
 }
 
-// 3x + 5y = 1. Were a quotient rounded toward zero, the plan would be (2, -1); were the last move dropped in place of the
-// pivot, the move would be (2, -1); a doubled move would be (-10, 6).
+// 3x + 5y = 1. Were a quotient rounded toward zero, the plan would be (2, -1); were the last move dropped in place of
+// the pivot, the move would be (2, -1); a doubled move would be (-10, 6).
 #[test]
 fn a_sheet_shows_its_solution(rt: HostRuntime) {
     assert!(rt;

@@ -15,9 +15,10 @@ use lines::reading::{MOST_NUMBERS, read_line};
 
 mod words;
 
-// The frames of the two lines.
+// The frame of an equation's line.
 pub const EQUATION: u8 = 0x02;
 
+// The frame of a plan's line.
 pub const PLAN: u8 = 0x82;
 
 // Why there is no answer.

@@ -2,7 +2,7 @@
 use Rattle.std.specs.Prelude.{ℕ, ◌+◌, ℤ, pos, negsuc, cond, nat_lt, List, [], ◌∷◌, ◌++◌, codes, length, take, slice_index_or}
 use Rattle.std.specs.Fmt.{decimal, signed_decimal}
 
--- the texts of a list's numbers one after another, each by its place, which is counted from the first one's on
+-- the texts of a list's numbers, one after another; each is given its place, and the first one's is given
 abbrev pub each : (ℕ → ℤ → List ℕ) → ℕ → List ℤ → List ℕ
 each text place [] = []
 each text place (number ∷ numbers) = text place number ++ each text (place + 1) numbers

@@ -30,7 +30,7 @@ impl fmt::Display for Term {
     }
 }
 
-// The coefficients of an equation.
+// The coefficients of an equation. Side, Plan and Row have a loop each: one that takes a closure would be longer.
 #[derive(Clone, Copy)]
 struct Side<'a>(&'a [i32]);
 
@@ -52,7 +52,6 @@ impl fmt::Display for Side<'_> {
     }
 }
 
-// Sums, plans and rows have each their loop of two lines: with a closure it would be the longer.
 // The coefficients of an equation and then its right side.
 #[derive(Clone, Copy)]
 pub struct Equation<'a>(pub &'a [i32]);

@@ -74,7 +74,8 @@ pub enum SheetFault {
     Contradicted,
 }
 
-// A fault has a number, as lines carry it; several have the same, and that is no conversion back and forth.
+// A fault's number, as lines carry it. A method and no `From`: several faults have the same number, so that none can be
+// told from it.
 impl NumberFault {
     pub fn number(self) -> u8
         ensures { result ≡ number_fault self }

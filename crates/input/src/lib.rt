@@ -25,8 +25,8 @@ pub fn cutting_told() -> u8
     0
 }
 
-// The line so far, at most its first 205 bytes: clauses see these bytes. An array with a length: the memory is fixed, with
-// no heap.
+// The line so far, at most its first 205 bytes: clauses see these bytes. An array with a length: the memory is fixed,
+// with no heap.
 #[derive(Drop)]
 pub struct Cutter {
     held: [u8; KEEP],

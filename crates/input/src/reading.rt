@@ -15,7 +15,8 @@ pub fn each_chunk<R: BufRead, F: FnMut(&[u8]) -> io::Result<bool>>(
     ensures fed { Fed (CalledAt F.FnMut) each.old (R.remaining input.old) result each.new (R.remaining input.new) }
     ensures again { F.IsAlwaysCallable each.new }
 {
-    // Counted, since a reader says nothing of what is left that would end a loop; the label names the loop in its proof.
+    // Counted: nothing that a reader says of what is left would show that a plain loop ends. The label names the loop
+    // in its proof.
     'chunks: for _ in 0..u64::MAX {
         let chunk = input.fill_buf()?;
         let len = chunk.len();

@@ -69,7 +69,8 @@ module _ {N C : Type 0} (a : Arithmetic N C) where
     pub zero_size : (x : N) → a.size x ≡ 0 → Alike (a.means x) (pos 0)
     -- a multiple of d that is not the same as 0 has at least the size of d
     pub size_multiple : (d x : N) (k : ℤ) → Alike (a.means x) (k *ℤ a.means d) → (Alike (a.means x) (pos 0) → ⊥) → a.size d ≤ a.size x
-    -- the quotient q of c by d leaves c − q × d stored and smaller than d, and there is none exactly where d is the same as 0
+    -- the quotient q of c by d leaves c − q × d stored and smaller than d, and there is none exactly where d is the
+    -- same as 0
     pub rest_stored : (c d q : N) → a.quotient c d ≡ Some q → Stored (a.means c -ℤ a.means q *ℤ a.means d)
     pub rest_smaller : (c d q r : N) → a.quotient c d ≡ Some q → Alike (a.means r) (a.means c -ℤ a.means q *ℤ a.means d) → a.size r < a.size d
     pub quotient_none : (c d : N) → a.quotient c d ≡ None → Alike (a.means d) (pos 0)

@@ -2,7 +2,8 @@
 ghost use Rattle.std.specs.Prelude.{◌≡◌, ℕ, ◌==◌, nat_lt};
 ghost use Rattle.kinds.specs.Kind.{Arithmetic, Laws};
 
-// A kind of number. The implementor is the number itself, always a stored one.
+// A kind of number. The implementor is the number itself, always a stored one. Its conversions are methods and no
+// `From` or `TryFrom`: the record of functions states each.
 pub trait Kind: Copy {
     // Two whole numbers that differ by a multiple of this are the same in the kind.
     const MODULUS: u32;
@@ -21,7 +22,6 @@ pub trait Kind: Copy {
         Self::MODULUS
     }
 
-    // Conversions are methods and no From or TryFrom: the record of functions states each, and they landed so.
     // The number that a word means, or None where the kind does not admit the word.
     fn read(word: i32) -> Option<Self>
         ensures { result ≡ arith.read word };

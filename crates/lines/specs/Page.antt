@@ -6,7 +6,7 @@ use Rattle.faults.specs.declared.PageFault.TheVariants.{NoRoom, LineBegun, NoLin
 use Rattle.lines.specs.declared.page.Page.{Page}
 use Rattle.lines.specs.Hex.{text, word_text}
 
--- the bytes d with s put from `at` on
+-- the list d with s put from `at` on: a page's bytes, or a sheet's cells
 abbrev pub over : {X : Type 0} → List X → ℕ → List X → List X
 over d at s = take at d ++ (s ++ drop (at + length s) d)
 

@@ -13,7 +13,7 @@ pub fn digit(c: char) -> Option<u8>
     }
 }
 
-// The value of a byte, and 16 where it is no digit. Kept with 16 for none: it landed as a public function.
+// The value of a byte, and 16 where it is no digit: it is public, and callers may rest on the 16.
 pub fn value(byte: u8) -> u8
     ensures { result ≡ hex_value byte }
 {

@@ -12,7 +12,7 @@ mod calls;
 #[derive(Drop)]
 pub struct Page<'a> {
     bytes: &'a mut [u8],
-    // Where the next line is to begin, or the begun one begins: the page is lent bytes with an end, and no heap.
+    // Where the next line will begin, or where the begun one begins.
     end: usize,
     line: Option<Begun>,
     ghost fits: { end + option_map_or (λ l. 5 + 8 * l.room) line 0 ≤ length bytes.now },

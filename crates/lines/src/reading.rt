@@ -10,7 +10,7 @@ use faults::{LineFault, NumberFault};
 // As many numbers as a line may have.
 pub const MOST_NUMBERS: usize = 25;
 
-// A line as it was read. Kept with a count beside the lent words: `read_line` landed as a public function with it.
+// A line as it was read: its count stands beside the lent words, as the public `read_line` answers it.
 #[derive(Clone, Copy)]
 pub struct Line {
     pub frame: u8,
@@ -110,9 +110,9 @@ fn check_line<'a>(bytes: &'a [u8], known: &[u8]) -> Result<FullLine<'a>, LineFau
     }
 }
 
-// Reads a line whose frame is one of those known; frames stay numbers, since each caller knows its own. Its numbers are
-// the first words; the words beyond keep what they held, and all do where the line is refused. A line that is accepted
-// would be written again byte for byte.
+// Reads a line whose frame is one of those known; frames stay numbers, since each caller knows its own. The line's
+// numbers are the first words; the words beyond keep what they held, and all do where the line is refused. A line that
+// is accepted would be written again byte for byte.
 pub fn read_line(bytes: &[u8], known: &[u8], words: &mut [i32]) -> Result<Line, LineFault>
     ensures value { result ≡ read_of (length words.old) known.now bytes.now }
     ensures after { words.new ≡ words_left (read_refusal (length words.old) known.now bytes.now) bytes.now words.old }

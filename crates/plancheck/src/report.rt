@@ -1,4 +1,5 @@
-// What is written of a pair of lines. Written out and not by Display: the lines are bytes, and the answer of another crate.
+// What is written of a pair of lines. By functions and not by `Display`: the lines are bytes, and the answer is another
+// crate's.
 use crate::unread::Unread;
 use costing::{EQUATION, PLAN, costing_meets, meets};
 use decimal::{Equation, Plan};

@@ -18,8 +18,8 @@ use Rattle.plans.proofs.Changes.{Change}
 abbrev over : Equation → List ℤ → List ℤ
 over e p = (dot e.coefficients p +ℤ neg_ℤ e.right) ∷ p
 
--- what the columns u and vs tell of the plans that meet es: each such plan, under what e comes to at it, is made by a choice,
--- each choice makes one, and no two choices make the same plan
+-- what the columns u and vs tell of the plans that meet es: each such plan, under what e comes to at it, is made by a
+-- choice, each choice makes one, and no two choices make the same plan
 pub record Tells (m n : ℕ) (es : List Equation) (e : Equation) (u : List ℤ) (vs : List (List ℤ)) : Type 0 where
   pub every : (p : List ℤ) → length p ≡ n → MeetsAll m es p → (y : List ℤ) × (length y ≡ length vs) × SameLists m (over e p) (made u vs y)
   pub each : (y : List ℤ) → length y ≡ length vs → (p : List ℤ) × (length p ≡ n) × MeetsAll m es p × SameLists m (over e p) (made u vs y)

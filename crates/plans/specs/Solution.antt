@@ -52,7 +52,8 @@ pub record Verdict (m n : ℕ) (es : List Equation) (e : Equation) (j : Judgemen
 abbrev pub Sized : {X : Type 0} → ℕ → List (List X) → Type 0
 Sized n vs = AllByRecursion (λ v. length v ≡ n) vs
 
--- the sheet stands for the equations es in n unknowns: its lists have n numbers, and what they mean is the general solution
+-- the sheet stands for the equations es in n unknowns: its lists have n numbers, and what they mean is the general
+-- solution
 pub record Holds {N C : Type 0} (a : Arithmetic N C) (n : ℕ) (es : List Equation) (s : Contents N) : Type 0 where
   pub fixed_length : length s.fixed ≡ n
   pub moves_length : Sized n s.moves

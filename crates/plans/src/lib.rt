@@ -1,5 +1,5 @@
-// The mathematics of a sheet: what it holds and how a posting works are in specs/; here stand the theorems. What a function
-// that carries one answers means nothing; it landed as a number.
+// The mathematics of a sheet: specs/ has what it holds and how a posting works; here stand the theorems. A function
+// that carries one answers 0, which means nothing.
 
 #![tactic(auto)]
 

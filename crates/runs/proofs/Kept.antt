@@ -1,4 +1,4 @@
--- The promise of a run, from the law of its opening and those of single calls. Assumes nothing.
+-- The promise of a run, from the law of its opening and those of single calls.
 use Rattle.std.proofs.Common.{◌≡◌, ℕ, List, [], ◌∷◌, ◌++◌, map, length, ℤ, Some, None, Ok, Err, Option, Result, sym, refl, ap, ◌∙◌, subst, subst₂}
 use Rattle.faults.specs.declared.SheetFault.{SheetFault}
 use Rattle.kinds.specs.Kind.{Arithmetic}

@@ -1,4 +1,5 @@
--- A posting that keeps to the sheet's law is rightly answered, and it and a clearing leave a sheet that stands for what is then in force. Assumes nothing.
+-- A posting that keeps to the sheet's law is rightly answered, and it and a clearing leave a sheet that stands for what
+-- is then in force.
 use Rattle.std.proofs.Common.{◌≡◌, ℕ, ◌+◌, ◌≤◌, Bool, true, false, cond, eqb, ltb, ◌↔◌, List, length, ℤ, Some, None, Ok, Err, Option, Result, sym, refl, ap, ◌∙◌, subst₂, arith}
 use Rattle.std.proofs.lemmas.Bool.{eqb-true, eqb-false, ltb-true}
 use Rattle.faults.specs.declared.SheetFault.{SheetFault}

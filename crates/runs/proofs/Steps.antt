@@ -1,4 +1,4 @@
--- A run over the steps of a slice: what is known when some of the calls are made. Assumes nothing.
+-- A run over the steps of a slice: what is known when some of the calls are made.
 use Rattle.std.proofs.Common.{◌≡◌, ℕ, ◌+◌, ◌<◌, ◌≤◌, List, [], ◌∷◌, ◌++◌, length, get_or, take, drop, set, sym, ap, ◌∙◌, subst, append_assoc, append-nil, arith}
 use lib.ListN.{length-map}
 use Rattle.std.proofs.lemmas.List.{get_or-map, take_more_set, drop_more, take_all, drop_all}

@@ -38,11 +38,12 @@ answers_in = map (λ step. step.answer)
 abbrev pub pairs_in : List Step → List (Called × Answered)
 pairs_in = map (λ step. (called step.call, step.answer))
 
--- the answer of a posting, and of any other call
+-- what a verdict is as a success
 abbrev pub success_of : Verdict → Success
 success_of Taken = Done
 success_of IsImplied = Implied
 
+-- the answer of a posting, and of any other call
 abbrev pub verdict_answer : Result Verdict SheetFault → Answered
 verdict_answer (Ok verdict) = Ok (success_of verdict)
 verdict_answer (Err fault) = Err fault

@@ -84,7 +84,8 @@ module _ {N C : Type 0} (a : Arithmetic N C) where
     pub word : (i : ℕ) → (r ≡ Err (Number (NotAdmitted i))) ↔ ((¬ (n ≡ 0)) × (length ws ≡ n + 1) × FirstRefused a ws i)
     -- for overflow exactly when all are admitted, and a step of the posting gives a number that cannot be stored
     pub overflows : (r ≡ Err Overflow) ↔ ((¬ (n ≡ 0)) × (length ws ≡ n + 1) × AllByRecursion (Admitted a) ws × (outcome_of a m ws ≡ overflow))
-    -- any other answer says which of the plans that meet every equation in force meet the posted one too: all, some and not all, or none
+    -- any other answer says which of the plans that meet every equation in force meet the posted one too: all, some and
+    -- not all, or none
     pub verdict : GoesThrough r → (j : Judgement) × (r ≡ judged j) × Verdict a.modulus n es (equation_of n ws) j
 
   -- the sheet before a call, the calls made before it being these
@@ -105,12 +106,14 @@ module _ {N C : Type 0} (a : Arithmetic N C) where
     -- and is the one that the choice makes out of the fixed plan and the moves, number by number
     pub is_made : SameLists a.modulus plan (made (map a.means (contents_of a m).fixed) (map (map a.means) (contents_of a m).moves) choice)
 
-  -- THE PROMISE, for the calls made from the state s on, where a sheet was opened, with the answers that they got, and the sheet m that they left
+  -- THE PROMISE, for the calls made from the state s on, where a sheet was opened, with the answers that they got, and
+  -- the sheet m that they left
   pub record Promise (s : State C) (calls : List (Called × Answered)) (m : Model C) : Type 0 where
     -- the sheet keeps the unknowns that it was opened with
     pub unknowns : m.unknowns ≡ s.sheet.unknowns
-    -- (a) the cells at the end: a plan meets every equation in force exactly when some choice makes it out of the fixed plan and the moves,
-    -- and no two choices make the same plan; plans, and choices, that are the same in the kind number by number count as one
+    -- (a) the cells at the end: a plan meets every equation in force exactly when some choice makes it out of the fixed
+    -- plan and the moves, and no two choices make the same plan; plans, and choices, that are the same in the kind
+    -- number by number count as one
     pub general : Holds a m.unknowns (in_force m.unknowns calls) (contents_in a m.unknowns m.moves m.cells)
     -- (b) every posting, wherever it stands in the list, is rightly answered, by the equations in force before it
     pub postings : (before behind : List (Called × Answered)) (ws : List ℤ) (r : Answered) → calls ≡ before ++ ((posting ws, r) ∷ behind) →

@@ -64,7 +64,7 @@ fn make_steps<K: Kind>(sheet: &mut Sheet<K>, steps: &mut [Step], plan: &mut [i32
 }
 
 // Opens a sheet over the cells and makes the calls of the steps on it, one after the other; each step gets its answer.
-// The cells then hold the sheet, and its outline is answered. Kept with its parameters: it landed so.
+// The cells then hold the sheet, and its outline is answered.
 pub fn run<K: Kind>(
     cells: &mut [K::Cell],
     unknowns: i32,

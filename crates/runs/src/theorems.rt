@@ -1,5 +1,5 @@
-// Theorems about the promise and the laws that it rests on: what they accept, and that they refuse what is wrong. What a
-// function that carries one answers means nothing.
+// Theorems about the promise and the laws that it rests on: what they accept, and that they refuse what is wrong. A
+// function that carries one answers 0, which means nothing.
 ghost use Rattle.kinds.specs.Weekday.{weekdays};
 ghost use Rattle.kinds.specs.Whole.{wholes};
 ghost use Rattle.runs.specs.SampleKinds.{PrimeModulus, KindSamples, NeverOverflows};
@@ -18,8 +18,8 @@ pub fn in_every_kind<K: Kind>() -> u8
     0
 }
 
-// What the definitions accept and refuse: fixed plans and moves as the general solution, single calls by their laws, runs
-// by the promise, and records of functions by the laws of a kind.
+// What the definitions accept and refuse: fixed plans and moves as the general solution, single calls by their laws,
+// runs by the promise, and records of functions by the laws of a kind.
 pub fn accepted_and_refused() -> u8
     ensures solutions { SolutionSamples }
     ensures calls { CallSamples }

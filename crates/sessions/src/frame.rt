@@ -11,7 +11,7 @@ use sheets::posting::Verdict;
 // The frames that a session knows.
 pub const KNOWN: [u8; 5] = [0x01, 0x02, 0x03, 0x04, 0x05];
 
-// What a line asks of the sheet that is open. Kept beside the calls of a run, which hold their words: both landed.
+// What a line asks of the sheet that is open. A run's calls are an enum of their own, since they hold their words.
 #[derive(Clone, Copy)]
 pub enum Request {
     Equation,

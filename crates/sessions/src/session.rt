@@ -1,5 +1,5 @@
 // A session: its sheets' cells, which sheet it is on, and the call that answers one line.
-ghost use Rattle.std.specs.Prelude.{◌≡◌, ◌+◌, ◌≤◌, length, IfOk, None};
+ghost use Rattle.std.specs.Prelude.{◌≡◌, ◌≤◌, length, IfOk, None};
 ghost use Rattle.lines.specs.Page.{model as page_model, with_text, over, HasRoom};
 ghost use Rattle.sessions.specs.Law.{LineLaw, PlanWritten};
 ghost use Rattle.sessions.specs.Session.{view, new_session, open_check, open_done, open_left, act as act_of, acted, planned, line_answer, line_after, line_plan, unknowns_of, show_on_lem as show_on_of, page_after, replied, answer_text, plan_text, reply, lent_refusal, call_answer, kept_if};
@@ -22,9 +22,10 @@ pub const CELLS: usize = 1225;
 // As many bytes as an answer line and the lines of the largest sheet have.
 pub const OUTPUT: usize = 4954;
 
-// The frames of an answer and of a picked plan.
+// The frame of an answer.
 const ANSWER: u8 = 0x81;
 
+// The frame of a picked plan.
 const PICKED_PLAN: u8 = 0x82;
 
 // The sheet that a session is on: its kind, and what it is besides the cells.
@@ -34,9 +35,9 @@ struct Current {
     outline: Outline,
 }
 
+// A session: the sheet that it is on, and its cells, those of each kind.
 // Kept with an arm for each kind where cells are passed on: the cells of each kind have a type of their own.
-// Kept without an `impl Model`: the landed law of a line takes the `view` of a session, so clauses would say it all
-// the same.
+// Without an `impl Model`: the law of a line takes the `view` of a session, so clauses would say it all the same.
 // The arrays are the session's memory, with no heap.
 #[derive(Drop)]
 pub struct Session {
@@ -143,7 +144,7 @@ impl Session {
     }
 
     // Writes the lines that stand behind an answer: a picked plan, which is in the first words of `plan`, or all that
-    // the sheet shows. Answer and plan are kept apart: `Done` landed as a public enum without words.
+    // the sheet shows. Answer and plan are kept apart, since `Done` is public and has no words.
     fn write_rest(
         &mut self,
         answer: Result<Done, SheetFault>,
@@ -184,7 +185,7 @@ impl Session {
 
     // Answers one line: the answer under frame 81, and behind it a picked plan (82) or all that the sheet shows (83 and
     // 84), at the start of the output; how many bytes they have is given back. Where the output is under 4954 bytes, or
-    // the words under 25, nothing is written and nothing changes. Kept with its parameters: it landed so.
+    // the words under 25, nothing is written and nothing changes.
     pub fn call(
         &mut self,
         number: i32,

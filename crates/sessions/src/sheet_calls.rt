@@ -88,8 +88,8 @@ fn show_check<K: Kind>(sheet: &Sheet<K>, words: &[i32]) -> Result<Done, SheetFau
     Ok(Done::Shown)
 }
 
-// Does what a line asks of a sheet, with its numbers: a match, since only reading the line tells what is asked. A picked
-// plan is put into the first words of `plan`. Showing is only checked: its lines are written behind the answer.
+// Does what a line asks of a sheet, with its numbers: a match, since only reading the line tells what is asked. A
+// picked plan is put into the first words of `plan`. Showing is only checked: its lines are written behind the answer.
 fn ask<K: Kind>(
     sheet: &mut Sheet<K>,
     request: Request,

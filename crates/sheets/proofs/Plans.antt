@@ -19,7 +19,7 @@ use Rattle.sheets.specs.Picking.{collected, entries, picked, plan_of}
 use Rattle.sheets.proofs.Numbers.{number_of_part, running_more, running_end}
 use Rattle.sheets.proofs.Places.{column_in}
 
--- all that came, one more at the end; one that did not come; and one of them
+-- options gathered into a list: one more at the end, none where one is none, and each of them
 module _ {X : Type 0} where
   collected_push : (os : List (Option X)) (xs : List X) (o : Option X) (x : X) → collected os ≡ Some xs → o ≡ Some x → collected (os ++ o ∷ []) ≡ Some (xs ++ x ∷ [])
   collected_push [] xs o x e f = let z : [] ≡ xs = cc in ap (λ (p : Option X). then p (λ y. then (Some []) (λ ys. Some (y ∷ ys)))) f ∙ ap (λ (t : List X). Some (t ++ x ∷ [])) z

@@ -74,8 +74,8 @@ module _ {N C : Type 0} (a : Arithmetic N C) where
     pub not_admitted : (i : ℕ) → (r ≡ Err (Number (NotAdmitted i))) ↔ ((stands m ≡ true) × (length ws ≡ m.unknowns + 1) × FirstRefused ws i)
     pub cannot_store : (r ≡ Err Overflow) ↔ ((stands m ≡ true) × (length ws ≡ m.unknowns + 1) × AllByRecursion (Admitted a) ws × (outcome_of a m ws ≡ overflow))
 
-  -- the words ws, posted to the sheet m, are answered r and leave the sheet `after`:
-  -- whatever equations m stands for, `after` stands for those then in force, and the answer says which plans meet the posted one
+  -- the words ws, posted to the sheet m, are answered r and leave the sheet `after`: whatever equations m stands for,
+  -- `after` stands for those then in force, and the answer says which plans meet the posted one
   pub record PostLaw (m : Model C) (ws : List ℤ) (r : Result Verdict SheetFault) (after : Model C) : Type 0 where
     pub unknowns : after.unknowns ≡ m.unknowns
     pub in_force : (es : List Equation) → StandsFor m es → StandsFor after (in_force_after r (equation_of m.unknowns ws) es)

@@ -25,7 +25,8 @@ module _ {N C : Type 0} {K : Ghosts N C} where
   abbrev pub first_of : Table N C K → ℕ
   first_of t = main_cells t.shape.unknowns + (t.shape.unknowns + 1)
 
-  -- a step on a table of n unknowns and k moves, with its columns from cell p on: the cells before, what came, the cells after
+  -- a step on a table of n unknowns and k moves, with its columns from cell p on: the cells before, what came, and the
+  -- cells after
   abbrev pub Step : {R : Type 0} → (ℕ → ℕ → ℕ → List C → R → List C → Type 0) → Table N C K → R → Table N C K → Type 0
   Step step before result after = step before.shape.unknowns (main_cells before.shape.unknowns) before.shape.moves before.cells.now result after.cells.now
 

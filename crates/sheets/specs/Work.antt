@@ -18,10 +18,11 @@ module _ {N C : Type 0} (a : Arithmetic N C) where
   abbrev pub column_at : List C → ℕ → ℕ → Column N
   column_at cells n p = record { top = number_at a cells p; low = numbers a (part (p + 1) n cells) }
 
-  -- column B at cell p, and k moves' columns behind it
+  -- k columns of n entries each, the first with its top in cell p
   abbrev pub columns_at : List C → ℕ → ℕ → ℕ → List (Column N)
   columns_at cells n p k = map (λ j. column_at cells n (p + j * (n + 1))) (range_with_len 0 k)
 
+  -- column B at cell p, and k moves' columns behind it
   abbrev pub work_at : List C → ℕ → ℕ → ℕ → Work N
   work_at cells n p k = record { B = column_at cells n p; columns = columns_at cells n (p + (n + 1)) k }
 
@@ -47,10 +48,11 @@ module _ {N C : Type 0} (a : Arithmetic N C) where
   Turned t l n p k before (Ok None) after = (t ≡ stop l) × (after ≡ before)
   Turned t l n p k before (Err _) after = (t ≡ fail) × Within p (work_cells n k) before after
 
-  -- the rounds ended at a pivot, or failed
+  -- the rounds on the columns in cells: the pivot's place, and the columns then
   abbrev pub rounds_at : List C → ℕ → ℕ → ℕ → Option (ℕ × Work N)
   rounds_at cells n p k = rounds a (suc (total_size a (columns_at a cells n (p + (n + 1)) k))) (work_at a cells n p k)
 
+  -- the rounds ended at a pivot, or failed
   abbrev pub Ended : ℕ → ℕ → ℕ → List C → Result ℕ Overflow → List C → Type 0
   Ended n p k before (Ok l) after = (rounds_at before n p k ≡ Some (l, work_at a after n p k)) × (l < k) × Within p (work_cells n k) before after
   Ended n p k before (Err _) after = (rounds_at before n p k ≡ None) × Within p (work_cells n k) before after

@@ -44,7 +44,7 @@ pub(crate) fn write<K: Kind>(cells: &mut [K::Cell], i: usize, x: K)
 }
 
 // Adds q × the numbers from `from` on to those from `to` on, from the top down.
-// Kept by index: both columns lie in one slice, either before the other, and splitting it makes two cases of every step.
+// Kept by index: both columns lie in one slice, either before the other; splitting it makes two cases of every step.
 // Out of line: written into a posting, its loop is short of registers, and a posting takes a tenth longer.
 #[inline(never)]
 pub(crate) fn combine<K: Kind>(
@@ -68,7 +68,7 @@ pub(crate) fn combine<K: Kind>(
     Ok(())
 }
 
-// Multiplies the numbers from `at` on by u, from the top down. Kept by index, as `combine` is: one walk proves both.
+// Multiplies the numbers from `at` on by u, from the top down. Kept by index, as `combine` is: one lemma proves both.
 pub(crate) fn scale<K: Kind>(
     cells: &mut [K::Cell],
     at: usize,

@@ -1,6 +1,6 @@
 // The columns of a posting: each has its top in one cell, and its n entries in those behind.
-// Functions of one column take the cells and no table, whose invariant they do not need; moves are told by number, since a
-// step reads one part of the cells and writes another.
+// Functions of one column take the cells and no table, whose invariant they do not need; moves are told by number,
+// since a step reads one part of the cells and writes another.
 ghost use Rattle.std.specs.Prelude.{◌≡◌, ◌+◌, ◌≤◌, ◌⊎◌, length};
 ghost use Rattle.plans.specs.Posting.{adds_column, blank, reduced};
 ghost use Rattle.sheets.specs.Words.{numbers_of};

@@ -1,5 +1,6 @@
 // The end of a posting: column B reduced by the pivot, and what is left written back.
-// That the pivot is one of the moves is kept as a `requires`: the type of a number cannot name the table that it counts in.
+// That the pivot is one of the moves is kept as a `requires`: the type of a number cannot name the table that it counts
+// in.
 ghost use Rattle.std.specs.Prelude.{◌≡◌, ◌+◌, ◌^◌, ◌<◌, Some};
 ghost use Rattle.plans.specs.Posting.{finish as finished};
 ghost use Rattle.sheets.specs.Cells.{held, main_of};
@@ -55,8 +56,8 @@ impl<K: Kind> Table<'_, K> {
         }
     }
 
-    // Writes back what a posting left in the columns: B's entries as the fixed plan, and the moves but the pivot; what is
-    // left of the moves' cells holds zero.
+    // Writes back what a posting left in the columns: B's entries as the fixed plan, and the moves but the pivot; what
+    // is left of the moves' cells holds zero.
     pub(crate) fn close_up(&mut self, pivot: usize)
         requires { pivot < self.old.shape.moves }
         ensures held { self.new.cells.ghost_name ≡ self.old.cells.ghost_name }

@@ -67,7 +67,8 @@ impl<K: Kind> Table<'_, K> {
         Ok(Verdict::Taken)
     }
 
-    // Works a posting out in the spare cells, which are left as they may be.
+    // Works a posting out in the spare cells, which are left as they may be; where the equation is taken, the main
+    // cells hold the new plan and moves.
     fn work(&mut self, words: &[i32]) -> Result<Verdict, SheetFault>
         requires { length words.now ≡ self.old.shape.unknowns + 1 }
         ensures held { self.new.cells.ghost_name ≡ self.old.cells.ghost_name }

@@ -21,15 +21,16 @@ use lines::page::Page;
 // Kept without an `impl Model`: as with a page, callers also need to know whose cells it holds.
 #[derive(Drop)]
 pub struct Sheet<'a, K: Kind> {
-    // The fixed plan, the moves in order, and the spare cells; there may be more behind them. Shape and list number are kept
-    // apart, as the landed definition `model` reads them.
+    // The fixed plan, the moves in order, and the spare cells; there may be more behind them. Shape and list number are
+    // kept apart, as the definition `model` reads them.
     pub(crate) cells: &'a mut [K::Cell],
     pub(crate) shape: Shape,
     // Names the list of unknowns that the sheet's equations are about.
     list: u16,
 }
 
-// The number of unknowns and the list number that an opening asks for. Kept as two parameters: `check` and `open` landed so.
+// The number of unknowns and the list number that an opening asks for. Two parameters and no struct, as in `check` and
+// `open`, which are public.
 fn asked(unknowns: i32, list: i32, len: usize) -> Result<(usize, u16), SheetFault>
     ensures { result ≡ asked_of unknowns list len }
 {

@@ -12,9 +12,10 @@ use crate::sheet::Sheet;
 use kinds::kind::Kind;
 use lines::page::Page;
 
-// The frames of a fixed plan and of a move.
+// The frame of a fixed plan.
 const FIXED_PLAN: u8 = 0x83;
 
+// The frame of a move.
 const MOVE: u8 = 0x84;
 
 // Writes a row of numbers in cells as one line.

@@ -20,7 +20,8 @@ impl<K: Kind> Table<'_, K> {
     }
 
     // The running sum from `start` of coefficient × the number in the cells from `from` on.
-    // Cells go by place, as in all methods of a table; costing sums words by words, and picking goes down a column.
+    // Cells go by place, as in all methods of a table; costing multiplies words by words, and picking takes one entry
+    // of each move.
     pub(crate) fn running_sum(&self, coefficients: &[i32], from: usize, start: K) -> Option<K>
         requires { from + length coefficients.now ≤ length self.now.cells.now }
         ensures { result ≡ running K.Kind.arith start (numbers_of K.Kind.arith coefficients.now) (numbers K.Kind.arith (part from (length coefficients.now) self.now.cells.now)) }

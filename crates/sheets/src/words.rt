@@ -17,7 +17,7 @@ pub(crate) fn word_number<K: Kind>(word: i32) -> K
 }
 
 // Refuses words of which the kind does not admit one, and tells the first such. At most 25, so that a byte tells which.
-// Kept as a loop: with `position` neither clause was proved, since its closure reads the words of a kind of anybody's.
+// Kept as a loop: with `position` neither clause was proved, since its closure reads the words of anybody's kind.
 pub(crate) fn check_words<K: Kind>(words: &[i32]) -> Result<(), SheetFault>
     requires { length words.now ≤ 25 }
     ensures fit { OnOk result (AllByRecursion (FitsSigned w32) words.now) }

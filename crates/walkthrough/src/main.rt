@@ -1,4 +1,5 @@
-// Runs lists of calls on sheets of both kinds, good calls and refused ones, and writes what came of each and what is left.
+// Runs lists of calls on sheets of both kinds, good calls and refused ones, and writes what came of each and what is
+// left.
 
 #![tactic(auto)]
 

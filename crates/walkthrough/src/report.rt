@@ -1,5 +1,5 @@
-// What is written of the calls of a run, their answers and the picked plan. Written out and not by Display: the types are of
-// other crates.
+// What is written of the calls of a run, their answers and the picked plan. By functions and not by `Display`: the
+// types are other crates'.
 use decimal::{Equation, Row};
 use runs::call::{Call, Step, Success, number_of};
 use std::io;

@@ -6,9 +6,9 @@ lattice(M, m) = if(m, mathnfmodid(M, m), mathnf(M));
 rank(M, m) = matrank(if(m, M * Mod(1, m), M));
 kernel(A, m) = if(m, lift(matker(A * Mod(1, m))), matkerint(A));
 
-\\ T holds the equations taken, a row each, its last column the right sides; its first row says 0 = 0. E is T with the
-\\ posted row. E has a plan exactly when its right sides lie in the lattice of its coefficients. T always has one, so all
-\\ its plans meet the row exactly when the row is a combination of T's.
+\\ T holds the equations taken, a row each, its last column the right sides; its first row says 0 = 0. E is T with
+\\ the posted row. E has a plan exactly when its right sides lie in the lattice of its coefficients. T always has one,
+\\ so all its plans meet the row exactly when the row is a combination of T's.
 \\ Printed: the verdicts; how many were contradicted by divisibility alone; and of what was shown, whether the number of
 \\ moves, the lattice of the moves and the fixed plan are right.
 sheet(m, n, rows, fixed, moves) =

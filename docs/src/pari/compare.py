@@ -1,8 +1,8 @@
 #!/usr/bin/env python3
-"""Compares the program sheet with PARI/GP on random small systems: compare.py SHEET COUNT SEED, SHEET being the program.
+"""Compares the program sheet with PARI/GP on random small systems: compare.py SHEET COUNT SEED, SHEET being its path.
 
-Half of the systems are whole, half weekday. COUNT is at most 125,000, as the program reads a million lines. PARI is asked
-by check.gp, in one process, and is told of the program's answers nothing but which postings overflowed.
+Half of the systems are whole, half weekday. COUNT is at most 125,000, as the program reads a million lines. PARI is
+asked by check.gp, in one process, and is told of the program's answers nothing but which postings overflowed.
 """
 import collections
 import json

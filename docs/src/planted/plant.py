@@ -1,8 +1,9 @@
 #!/usr/bin/env python3
 """Plants bugs in a copy of the repository: plant.py ROOT COPY TABLE [CRATE...]. See run.
 
-Each bug becomes a must-fail edit of the copy, so that the gate's own command says whether the prover refuses it. One that
-the prover lets pass must show in what a program or a test says. The crates' parts of TABLE are written anew.
+Each bug becomes a must-fail edit of the copy, so that the gate's own command says whether the prover refuses it. One
+that the prover lets pass must show in what a program or a test says. The crates' parts of TABLE
+are written anew.
 """
 import os
 import re
@@ -48,8 +49,8 @@ def bugs_of(folder, crate):
 
 
 def functions(path):
-    """The functions of a file that do something: name, first and last line. Tests are left out, and those that only carry
-    a theorem, whose body is 0."""
+    """The functions of a file that do something: name, first and last line. Tests are left out, and those that only
+    carry a theorem, whose body is 0."""
     lines, owner, test = open(path).read().split("\n"), "", False
     for i, line in enumerate(lines):
         owned = re.match(r"(?:pub )?trait (\w+)", line) or re.match(r"impl\b.*? (?:.*\bfor )?(?:\w+::)*(\w+)(<.*>)? \{", line)

@@ -237,8 +237,8 @@ impl Sheet {
     }
 }
 
-/// The value of a hexadecimal digit; NO_DIGIT for any other byte.
 const NO_DIGIT: u8 = 0xFF;
+/// The value of a hexadecimal digit; NO_DIGIT for any other byte.
 const DIGIT: [u8; 256] = {
     let mut table = [NO_DIGIT; 256];
     let mut value = 0;

@@ -3,7 +3,7 @@ ghost use Rattle.std.specs.Prelude.{◌≤◌};
 
 #[derive(Clone, Copy)]
 pub(super) struct Begun {
-    // How many numbers it has room for, and how many were put: in the page's bytes, which belong to the page.
+    // How many numbers the line has room for, and how many were put; their digits are in the page's bytes.
     pub(super) room: usize,
     pub(super) put: usize,
     ghost few: { room ≤ 25 },

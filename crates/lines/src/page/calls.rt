@@ -40,7 +40,8 @@ impl<'a> Page<'a> {
         self.bytes[at..at + n].fill(0);
     }
 
-    // Why `len` bytes of whole lines cannot be put at the page's end. Kept as an Option: it landed as a public function.
+    // Why `len` bytes of whole lines cannot be put at the page's end. Kept as an Option: it is public, and callers may
+    // rest on it.
     pub fn text_refusal(&self, len: usize) -> Option<PageFault>
         ensures { result ≡ text_refusal_lem (model self.now) len }
     {
