@@ -4,8 +4,8 @@ use Rattle.std.proofs.lemmas.List.FromFn.{length-map-range_with_len, get_or-map-
 use Rattle.std.proofs.lemmas.List.{append_assoc, length-append, length-map, length-take-le, take_at, drop_at, drop-drop, drop-take, take-take, take_all, take_more, drop_more, take-append-drop, ext_get_or}
 use Rattle.kinds.specs.Kind.{Arithmetic, Laws}
 use Rattle.lines.specs.Page.{over}
-use Rattle.plans.specs.Posting.{then, Column, running, adds_column, blank, topped, normalised, total_size}
-use Rattle.sheets.specs.Cells.{part, numbers, held, number_at, move_at, moves_at}
+use Rattle.plans.specs.Posting.{then, Column, running, adds_column, blank, topped, normalised}
+use Rattle.sheets.specs.Cells.{part, numbers, held, move_at, moves_at}
 use Rattle.sheets.specs.Work.{Only, column_at, columns_at, Laid}
 use Rattle.sheets.proofs.Numbers.{length_numbers_part}
 use Rattle.sheets.proofs.Places.{column_in}
@@ -218,16 +218,3 @@ module _ {N C : Type 0} (a : Arithmetic N C) (n p k : ℕ) (start : List C) (roo
     sym (ap (normalised a) (take_all j S (let l = length_columns a n p k start in omega arith))) ∙ w.sum ∙ ap (λ (i : ℕ). Some (columns_at a now n p i)) e,
     w.inside,
   )
-
--- the sum of the tops' sizes
-module _ {N C : Type 0} (a : Arithmetic N C) where
-  total_push : (cs : List (Column N)) (c : Column N) → total_size a (cs ++ c ∷ []) ≡ total_size a cs + a.size c.top
-  total_push [] c = omega arith
-  total_push (b ∷ cs) c = let i = total_push cs c in omega arith
-
-  total_part : (cs ds : List (Column N)) (c : Column N) → a.size c.top ≤ total_size a (cs ++ c ∷ ds)
-  total_part [] ds c = omega arith
-  total_part (b ∷ cs) ds c = let i = total_part cs ds c in omega arith
-
-  pub total_zero : (cells : List C) (n p j : ℕ) → total_size a (columns_at a cells n p j) ≡ 0 → a.size (number_at a cells (p + j * (n + 1))) ≡ 0 → total_size a (columns_at a cells n p (j + 1)) ≡ 0
-  total_zero cells n p j e f = ap (total_size a) (columns_push a n p cells j) ∙ total_push (columns_at a cells n p j) (column_at a cells n (p + j * (n + 1))) ∙ omega arith

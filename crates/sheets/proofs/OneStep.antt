@@ -92,9 +92,6 @@ module _ {N C : Type 0} (a : Arithmetic N C) (laws : Laws a) where
     pub new_spare : (cells : List C) → needed n ≤ length cells → part (main_cells n) (spare_cells n) (sheet_cells a n (new_sheet a n) cells) ≡ zero_cells a (spare_cells n)
     new_spare cells room = laid_spare a n (main_of a n (new_sheet a n)) cells length_new room
 
-    pub new_length : (cells : List C) → needed n ≤ length cells → length (sheet_cells a n (new_sheet a n) cells) ≡ length cells
-    new_length cells room = laid_length a n (main_of a n (new_sheet a n)) cells length_new room
-
   -- an opening that is not refused has the cells that it needs
   asked_room : (u l : ℤ) (len : ℕ) (n list : ℕ) → asked u l len ≡ Ok (n, list) → needed n ≤ len
   asked_room u l len n list e = by (in_range 1 24 u) (in_range 0 65535 l) (ltb len (needed (natural u))) refl e

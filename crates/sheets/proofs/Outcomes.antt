@@ -1,16 +1,15 @@
 -- What a posting comes to, from its steps.
-use Rattle.std.proofs.Common.{◌≡◌, ℕ, suc, ◌+◌, ◌-◌, ◌*◌, ◌<◌, ◌≤◌, true, false, cond, eqb, List, ◌++◌, map, length, get_or, take, drop, Some, None, Ok, Result, sym, refl, ap, ◌∙◌, subst, inr, add-mul, zero-add, mul-one, mul-add, arith}
+use Rattle.std.proofs.Common.{◌≡◌, ℕ, suc, ◌+◌, ◌-◌, ◌*◌, ◌<◌, ◌≤◌, List, ◌++◌, map, length, get_or, take, drop, Some, None, Ok, Result, sym, refl, ap, ◌∙◌, subst, inr, add-mul, zero-add, mul-one, mul-add, arith}
 use Rattle.std.specs.List.{flat_map}
 use Rattle.std.proofs.lemmas.List.{length-append, length-map, length-replicate, take_at, drop_at, drop-drop, get_or-take, ext_get_or}
-use Rattle.std.proofs.lemmas.Bool.{cond-true, cond-false}
 use Rattle.faults.specs.declared.SheetFault.{SheetFault}
 use Rattle.kinds.specs.Kind.{Arithmetic}
 use Rattle.lines.specs.Page.{over}
-use Rattle.plans.specs.Posting.{Column, Outcome, taken, implied, contradicted, overflow, topped, column_B, normalised, rounds, total_size, finish, worked, flat, prepared, posted, without}
+use Rattle.plans.specs.Posting.{Column, Outcome, taken, contradicted, overflow, normalised, rounds, total_size, finish, worked, without}
 use Rattle.plans.specs.Sheet.{Contents}
 use Rattle.sheets.specs.declared.posting.Verdict.{Verdict}
 use Rattle.sheets.specs.declared.posting.Verdict.TheVariants.{Taken}
-use Rattle.sheets.specs.Cells.{main_cells, spare_cells, needed, part, number, numbers, number_at, held, zero_cells, main_of, moves_at, contents_in}
+use Rattle.sheets.specs.Cells.{main_cells, spare_cells, needed, part, number, numbers, number_at, held, zero_cells, main_of}
 use Rattle.sheets.specs.Combining.{Within}
 use Rattle.sheets.specs.Posted.{answer_of_lem, main_after, cells_after, Settled}
 use Rattle.sheets.specs.Work.{Only, column_at, columns_at, work_at, work_cells, rounds_at, left_at}
@@ -157,34 +156,6 @@ module _ {N C : Type 0} (a : Arithmetic N C) (n p k : ℕ) (cs : List C) (place 
           let lf = w.len in
           subst (λ (x : Outcome N). Settled a x n p k cs (Ok Taken) gs) (sym q)
           (settled_taken a n p k place (left_at a fs n p k l) cs fs gs w (length_left a n p k l fs place few (omega arith) hl) (omega arith) g)
-
-module _ {N C : Type 0} (a : Arithmetic N C) (es : List N) (right : N) (n p k : ℕ) (cs : List C) (place : p ≡ n * (n + 1)) (ds : List C) (w : Within p (work_cells a n k) cs ds) where
-  abbrev P : Outcome N
-  P = posted a (contents_in a n k cs) es right
-
-  module _ (et : topped a es (moves_at a cs n k) ≡ Some (columns_at a ds n (p + (n + 1)) k)) (eb : column_B a es right (numbers a (take n cs)) ≡ Some (column_at a ds n p)) where
-    abbrev T : List (Column N)
-    T = columns_at a ds n (p + (n + 1)) k
-
-    abbrev B : Column N
-    B = column_at a ds n p
-
-    after_prepare : P ≡ flat a T B (worked a B (normalised a T))
-    after_prepare = λ i. prepared a (et i) (eb i)
-
-    module _ (z : eqb (total_size a T) 0 ≡ true) where
-      when_flat : P ≡ cond (eqb (a.size B.top) 0) implied contradicted
-      when_flat = after_prepare ∙ cond-true (eqb (total_size a T) 0) (cond (eqb (a.size B.top) 0) implied contradicted) (worked a B (normalised a T)) z
-
-      pub flat_implied : eqb (a.size B.top) 0 ≡ true → Settled a P n p k cs (answer_of_lem {N = N} implied) ds
-      flat_implied e =
-          let o : P ≡ implied = when_flat ∙ cond-true (eqb (a.size B.top) 0) implied contradicted e in
-          settled_kept a n p k place P (answer_of_lem {N = N} implied) cs ds (ap answer_of_lem (sym o)) (ap (λ (x : Outcome N). main_after a x n cs) o) w
-
-      pub flat_contradicted : eqb (a.size B.top) 0 ≡ false → Settled a P n p k cs (answer_of_lem {N = N} contradicted) ds
-      flat_contradicted e =
-          let o : P ≡ contradicted = when_flat ∙ cond-false (eqb (a.size B.top) 0) implied contradicted e in
-          settled_kept a n p k place P (answer_of_lem {N = N} contradicted) cs ds (ap answer_of_lem (sym o)) (ap (λ (x : Outcome N). main_after a x n cs) o) w
 
 -- the spare cells wiped at the end
 pub all_cells : {N C : Type 0} (a : Arithmetic N C) (o : Outcome N) (n p k : ℕ) (cs ds es : List C) (r : Result Verdict SheetFault) → p ≡ n * (n + 1) → k ≤ n → p + spare_cells n ≤ length cs → Settled a o n p k cs r ds → es ≡ over ds p (zero_cells a (spare_cells n)) → es ≡ cells_after a o n cs

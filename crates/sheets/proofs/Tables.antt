@@ -30,6 +30,3 @@ module _ {N C : Type 0} {K : Ghosts N C} (t : Table N C K) where
 -- the numbers of the same shape
 pub same_unknowns : {s t : Shape} → s ≡ t → s.unknowns ≡ t.unknowns
 same_unknowns e = ap (λ (s : Shape). s.unknowns) e
-
-pub same_moves : {s t : Shape} → s ≡ t → s.moves ≡ t.moves
-same_moves e = ap (λ (s : Shape). s.moves) e

@@ -1,8 +1,5 @@
 #!/usr/bin/env python3
-"""Random sessions for the program sheet: random_lines.py COUNT SEED [WHOLE], one line in ten damaged.
-
-WHOLE is the share of openings with whole numbers, 0.6 unless given.
-"""
+"""Random sessions for the program sheet: random_lines.py COUNT SEED, one line in ten damaged."""
 import random
 import sys
 
@@ -22,8 +19,8 @@ def any_number(r):
 class Session:
     """Writes lines for a sheet of which it knows the kind, the unknowns and, by guess, the moves."""
 
-    def __init__(self, r, whole):
-        self.r, self.whole = r, whole
+    def __init__(self, r):
+        self.r = r
         self.modulus, self.n = 0, 2
         self.clear()
 
@@ -35,7 +32,7 @@ class Session:
 
     def open(self):
         r = self.r
-        modulus = 0 if r.random() < self.whole else 7
+        modulus = 0 if r.random() < 0.6 else 7
         n = r.choice([1, 1, 2, 2, 2, 3, 3, 3, 4, 4, 5, 6, 8, 11, 16, 23, 24])
         number = r.choice([0, 1, 65535, r.randrange(65536)])
         if r.random() < 0.12:
@@ -163,7 +160,7 @@ def main():
     words = sys.argv[1:]
     count, seed = int(words[0]), int(words[1])
     r = random.Random(seed)
-    session = Session(r, float(words[2]) if len(words) > 2 else 0.6)
+    session = Session(r)
     lines = []
     for i in range(count):
         before = dict(vars(session))
