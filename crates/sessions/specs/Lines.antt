@@ -5,7 +5,7 @@ use Rattle.faults.specs.declared.SheetFault.{SheetFault}
 use Rattle.faults.specs.declared.SheetFault.TheVariants.{Line, NoSheet}
 use Rattle.kinds.specs.Kind.{Arithmetic}
 use Rattle.sheets.specs.Clearing.{new_again}
-use Rattle.sheets.specs.Picking.{pick_refusal_lem, plan_in, pick_unless, pick_left}
+use Rattle.sheets.specs.Picking.{pick_refusal, plan_in, pick_unless, pick_left}
 use Rattle.sheets.specs.Sheet.{Model, stands, post_answer, post_left}
 use Rattle.sheets.specs.declared.posting.Verdict.{Verdict}
 use Rattle.sessions.specs.Frames.{placed}
@@ -25,8 +25,8 @@ posted_done (Ok verdict) = Ok (Posted verdict)
 posted_done (Err fault) = Err (placed fault)
 
 -- a clearing's or a showing's line has no numbers
-abbrev pub bare_refusal_lem : {C : Type 0} → Model C → List ℤ → Option SheetFault
-bare_refusal_lem m ws = cond (stands m) (cond (length ws == 0) None (Some (Line LineCount))) (Some NoSheet)
+abbrev pub numbers_refusal : {C : Type 0} → Model C → List ℤ → Option SheetFault
+numbers_refusal m ws = cond (stands m) (cond (length ws == 0) None (Some (Line LineCount))) (Some NoSheet)
 
 abbrev pub done_unless : Option SheetFault → Done → Result Done SheetFault
 done_unless None done = Ok done
@@ -34,11 +34,11 @@ done_unless (Some fault) done = Err fault
 
 -- a showing's answer, where the page can take all its lines
 abbrev pub show_check_lem : {C : Type 0} → Model C → List ℤ → Result Done SheetFault
-show_check_lem m ws = done_unless (bare_refusal_lem m ws) Shown
+show_check_lem m ws = done_unless (numbers_refusal m ws) Shown
 
 -- a clearing's answer
 abbrev pub clear_done : {C : Type 0} → Model C → List ℤ → Result Done SheetFault
-clear_done m ws = done_unless (bare_refusal_lem m ws) Cleared
+clear_done m ws = done_unless (numbers_refusal m ws) Cleared
 
 -- a picking's answer
 abbrev pub picked_done : Result Unit SheetFault → Result Done SheetFault
@@ -52,19 +52,19 @@ module _ {N C : Type 0} (a : Arithmetic N C) where
   cleared_unless (Some fault) m = m
 
   abbrev pub clear_in_line : Model C → List ℤ → Model C
-  clear_in_line m ws = cleared_unless (bare_refusal_lem m ws) m
+  clear_in_line m ws = cleared_unless (numbers_refusal m ws) m
 
   -- a picking's answer, with as many words for the plan as there are unknowns
   abbrev pub pick_done : Model C → List ℤ → Result Done SheetFault
-  pick_done m ws = picked_done (pick_unless a (pick_refusal_lem a m ws m.unknowns) (plan_in a m ws))
+  pick_done m ws = picked_done (pick_unless a (pick_refusal a m ws m.unknowns) (plan_in a m ws))
 
-  abbrev pub plan_words_lem : Option (List N) → List ℤ
-  plan_words_lem (Some xs) = map a.write xs
-  plan_words_lem None = []
+  abbrev pub plan_words : Option (List N) → List ℤ
+  plan_words (Some xs) = map a.write xs
+  plan_words None = []
 
   -- the words of the plan that a choice picks
   abbrev pub picked_words : Model C → List ℤ → List ℤ
-  picked_words m ws = plan_words_lem (plan_in a m ws)
+  picked_words m ws = plan_words (plan_in a m ws)
 
   -- the words lent for a plan after a picking, which writes as many of them as there are unknowns
   abbrev pub plan_left : Model C → List ℤ → List ℤ → List ℤ

@@ -14,7 +14,7 @@ use Rattle.sheets.proofs.Places.{column_in}
 use Rattle.sheets.proofs.Rounding.{column_of, length_columns}
 use Rattle.sheets.proofs.Rows.{length_so_far, length_rows, rows_start, rows_more, rows_end}
 use Rattle.sheets.proofs.Standing.{part_other}
-use Rattle.sheets.proofs.Walks.{get_d_over}
+use Rattle.sheets.proofs.Walks.{get_or_over}
 
 -- a list without one place
 length_without : {X : Type 0} (xs : List X) (l : ℕ) → l < length xs → suc (length (without xs l)) ≡ length xs
@@ -138,7 +138,7 @@ columns_behind {N} {C} a n first k cs s h room =
     let jk : j < k = let l = length_columns a n first k ds in omega arith in
     let c = column_in j k (n + 1) jk in
     let q = first + j * (n + 1) in
-    let t : number_at a ds q ≡ number_at a cs q = ap (number a) (get_d_over cs s 0 q z (omega arith) (inr (omega arith))) in
+    let t : number_at a ds q ≡ number_at a cs q = ap (number a) (get_or_over cs s 0 q z (omega arith) (inr (omega arith))) in
     let u : numbers a (part (q + 1) n ds) ≡ numbers a (part (q + 1) n cs) = ap (numbers a) (part_other z cs s 0 (q + 1) n (omega arith) (omega arith) (inr (omega arith))) in
     let e : column_at a ds n q ≡ column_at a cs n q = λ i. record { top = t i; low = u i } in
     column_of a n first k ds j d jk ∙ e ∙ sym (column_of a n first k cs j d jk))

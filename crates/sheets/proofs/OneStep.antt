@@ -20,9 +20,9 @@ use Rattle.sheets.specs.declared.posting.Verdict.{Verdict}
 use Rattle.sheets.specs.Cells.{main_cells, spare_cells, needed, part, held, zero_cells, contents_in, main_of, sheet_cells}
 use Rattle.sheets.specs.Clearing.{clear_answer, new_again, clear_left}
 use Rattle.sheets.specs.Law.{equation_of, StandsFor, Passes, Sound, SpareZero, RefusalsExact, PostLaw, ClearLaw, PickLaw}
-use Rattle.sheets.specs.Picking.{pick_refusal_lem, plan_in, pick_unless, words_unless, pick_answer, pick_left}
-use Rattle.sheets.specs.Posted.{answer_of_lem, main_after}
-use Rattle.sheets.specs.Sheet.{Model, in_range, natural, asked, opened_by, opened, stands, post_refusal_lem, outcome_of, sheet_after, answer_unless, after_unless, post_answer, post_left}
+use Rattle.sheets.specs.Picking.{pick_refusal, plan_in, pick_unless, words_unless, pick_answer, pick_left}
+use Rattle.sheets.specs.Posted.{answer_of, main_after}
+use Rattle.sheets.specs.Sheet.{Model, in_range, natural, asked, opened_by, opened, stands, post_refusal, outcome_of, sheet_after, answer_unless, after_unless, post_answer, post_left}
 use Rattle.sheets.specs.Words.{number_of, numbers_of}
 use Rattle.sheets.proofs.Fresh.{length_units}
 use Rattle.sheets.proofs.Meanings.{number_means, numbers_mean}
@@ -158,7 +158,7 @@ module _ {N C : Type 0} (a : Arithmetic N C) (laws : Laws a) where
       judged : (es : List Equation) (i j : Judgement) → Judged a.modulus n es e i → Some i ≡ Some j → Judged a.modulus n es e j
       judged es i j v q = let w : i ≡ j = cc in subst (Judged a.modulus n es e) w v
 
-      outcome_law : (o : Outcome N) → ((es : List Equation) → StandsFor a m es → Right a n es e s o) → Leaves n m.moves o → PostLaw a m ws (answer_of_lem o) (sheet_after a m o)
+      outcome_law : (o : Outcome N) → ((es : List Equation) → StandsFor a m es → Right a n es e s o) → Leaves n m.moves o → PostLaw a m ws (answer_of o) (sheet_after a m o)
       outcome_law (taken t) r h = record {
         unknowns = refl;
         in_force = λ es k. subst (Holds a n (e ∷ es)) (sym (reads_back a laws n (m.moves - 1) t (measured_less t h) (omega arith) m.cells)) (r es k).holds;
@@ -196,10 +196,10 @@ module _ {N C : Type 0} (a : Arithmetic N C) (laws : Laws a) where
         (numbers_mean a laws (take n ws) (All-take (SFits w32) n ws f) (All-take (Admitted a) n ws p.all))
         (number_means a laws (get_or ws n (pos 0)) (All-get_or (SFits w32) ws n (pos 0) i f) (All-get_or (Admitted a) ws n (pos 0) i p.all))
 
-    pub post_law : (post_refusal_lem a m ws ≡ None → AllByRecursion (SFits w32) ws) → PostLaw a m ws (post_answer a m ws) (post_left a m ws)
-    post_law fit = by (post_refusal_lem a m ws) refl
+    pub post_law : (post_refusal a m ws ≡ None → AllByRecursion (SFits w32) ws) → PostLaw a m ws (post_answer a m ws) (post_left a m ws)
+    post_law fit = by (post_refusal a m ws) refl
       where
-        by : (o : Option SheetFault) → post_refusal_lem a m ws ≡ o → PostLaw a m ws (answer_unless a o (outcome_of a m ws)) (after_unless a o m (outcome_of a m ws))
+        by : (o : Option SheetFault) → post_refusal a m ws ≡ o → PostLaw a m ws (answer_unless a o (outcome_of a m ws)) (after_unless a o m (outcome_of a m ws))
         by (Some fault) q = record { unknowns = refl; in_force = λ es h. h; verdict = λ es h j k. let r = refusal_silent a m ws fault q in let z : ◌≡◌ {A = ℕ} 0 1 = cc in absurd (omega arith) }
         by None q =
             let p = postable a m ws q in
@@ -207,22 +207,22 @@ module _ {N C : Type 0} (a : Arithmetic N C) (laws : Laws a) where
             outcome_law room (outcome_of a m ws) (right p (fit q)) (leaves room)
 
     pub post_sound : Sound a m → Sound a (post_left a m ws)
-    post_sound h = by (post_refusal_lem a m ws) refl
+    post_sound h = by (post_refusal a m ws) refl
       where
-        by : (o : Option SheetFault) → post_refusal_lem a m ws ≡ o → Sound a (after_unless a o m (outcome_of a m ws))
+        by : (o : Option SheetFault) → post_refusal a m ws ≡ o → Sound a (after_unless a o m (outcome_of a m ws))
         by (Some fault) q = h
         by None q = let room = (standing m (postable a m ws q).stand).room in outcome_sound room (outcome_of a m ws) (leaves room) h
 
     -- a posting that touches a cell leaves the spare ones at zero
-    pub post_wipes : post_refusal_lem a m ws ≡ None → SpareZero a (post_left a m ws)
+    pub post_wipes : post_refusal a m ws ≡ None → SpareZero a (post_left a m ws)
     post_wipes q =
         let room = (standing m (postable a m ws q).stand).room in
         subst (λ (o : Option SheetFault). SpareZero a (after_unless a o m (outcome_of a m ws))) (sym q) (outcome_spare room (outcome_of a m ws) (leaves room))
 
     pub post_spare : SpareZero a m → SpareZero a (post_left a m ws)
-    post_spare h = by (post_refusal_lem a m ws) refl
+    post_spare h = by (post_refusal a m ws) refl
       where
-        by : (o : Option SheetFault) → post_refusal_lem a m ws ≡ o → SpareZero a (after_unless a o m (outcome_of a m ws))
+        by : (o : Option SheetFault) → post_refusal a m ws ≡ o → SpareZero a (after_unless a o m (outcome_of a m ws))
         by (Some fault) q = h
         by None q = let room = (standing m (postable a m ws q).stand).room in outcome_spare room (outcome_of a m ws) (leaves room)
 
@@ -264,10 +264,10 @@ module _ {N C : Type 0} (a : Arithmetic N C) (laws : Laws a) where
     refused_law : (fault : SheetFault) (plan : List ℤ) → PickLaw a m choice (Err fault) plan
     refused_law fault plan = record { is_made = λ e. let z : ◌≡◌ {A = ℕ} 0 1 = cc in absurd (omega arith); meets = λ e. let z : ◌≡◌ {A = ℕ} 0 1 = cc in absurd (omega arith) }
 
-    pub pick_law : (pick_refusal_lem a m choice (length words) ≡ None → AllByRecursion (SFits w32) choice) → PickLaw a m choice (pick_answer a m choice words) (pick_left a m choice words)
-    pick_law fit = by (pick_refusal_lem a m choice (length words)) (plan_in a m choice) refl refl
+    pub pick_law : (pick_refusal a m choice (length words) ≡ None → AllByRecursion (SFits w32) choice) → PickLaw a m choice (pick_answer a m choice words) (pick_left a m choice words)
+    pick_law fit = by (pick_refusal a m choice (length words)) (plan_in a m choice) refl refl
       where
-        by : (o : Option SheetFault) (p : Option (List N)) → pick_refusal_lem a m choice (length words) ≡ o → plan_in a m choice ≡ p → PickLaw a m choice (pick_unless a o p) (words_unless a o p words)
+        by : (o : Option SheetFault) (p : Option (List N)) → pick_refusal a m choice (length words) ≡ o → plan_in a m choice ≡ p → PickLaw a m choice (pick_unless a o p) (words_unless a o p words)
         by (Some fault) p q e = refused_law fault words
         by None None q e = refused_law Overflow words
         by None (Some xs) q e = plan_law (pickable a m choice (length words) q) (fit q) xs e
@@ -278,9 +278,9 @@ pub record PostKeeps {N C : Type 0} (a : Arithmetic N C) (m : Model C) (ws : Lis
   pub law : PostLaw a m ws r after
   pub sound : Sound a m → Sound a after
   pub spare : SpareZero a m → SpareZero a after
-  pub wiped : post_refusal_lem a m ws ≡ None → SpareZero a after
+  pub wiped : post_refusal a m ws ≡ None → SpareZero a after
 
-pub post_keeps : {N C : Type 0} (a : Arithmetic N C) (laws : Laws a) (m : Model C) → m.moves ≤ m.unknowns → (ws : List ℤ) → (post_refusal_lem a m ws ≡ None → AllByRecursion (SFits w32) ws)
+pub post_keeps : {N C : Type 0} (a : Arithmetic N C) (laws : Laws a) (m : Model C) → m.moves ≤ m.unknowns → (ws : List ℤ) → (post_refusal a m ws ≡ None → AllByRecursion (SFits w32) ws)
     → (r : Result Verdict SheetFault) (after : Model C) → r ≡ post_answer a m ws → after ≡ post_left a m ws → PostKeeps a m ws r after
 post_keeps a laws m few ws fit r after e f =
     subst₂ (PostKeeps a m ws) (sym e) (sym f)

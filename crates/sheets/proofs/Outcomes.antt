@@ -11,7 +11,7 @@ use Rattle.sheets.specs.declared.posting.Verdict.{Verdict}
 use Rattle.sheets.specs.declared.posting.Verdict.TheVariants.{Taken}
 use Rattle.sheets.specs.Cells.{main_cells, spare_cells, needed, part, number, numbers, number_at, held, zero_cells, main_of}
 use Rattle.sheets.specs.Combining.{Within}
-use Rattle.sheets.specs.Posted.{answer_of_lem, main_after, cells_after, Settled}
+use Rattle.sheets.specs.Posted.{answer_of, main_after, cells_after, Settled}
 use Rattle.sheets.specs.Work.{Only, column_at, columns_at, work_at, work_cells, rounds_at, left_at}
 use Rattle.sheets.proofs.Closing.{length_moves, length_L}
 use Rattle.sheets.proofs.Laying.{part_before}
@@ -20,11 +20,11 @@ use Rattle.sheets.proofs.Numbers.{length_numbers_part}
 use Rattle.sheets.proofs.Places.{column_in}
 use Rattle.sheets.proofs.Rounding.{column_of, length_columns}
 use Rattle.sheets.proofs.Standing.{length_over, part_other}
-use Rattle.sheets.proofs.Walks.{get_d_over}
+use Rattle.sheets.proofs.Walks.{get_or_over}
 
 module _ {N C : Type 0} (a : Arithmetic N C) (n p k : ℕ) (place : p ≡ n * (n + 1)) where
   -- an outcome that leaves the main cells
-  pub settled_kept : (o : Outcome N) (r : Result Verdict SheetFault) (cs ds : List C) → r ≡ answer_of_lem o → main_after a o n cs ≡ take (main_cells n) cs → Within p (work_cells a n k) cs ds → Settled a o n p k cs r ds
+  pub settled_kept : (o : Outcome N) (r : Result Verdict SheetFault) (cs ds : List C) → r ≡ answer_of o → main_after a o n cs ≡ take (main_cells n) cs → Within p (work_cells a n k) cs ds → Settled a o n p k cs r ds
   settled_kept o r cs ds e m w =
       record {
         answer = e;
@@ -84,7 +84,7 @@ columns_after {N} {C} a n p k es fs (s, (l, e)) room =
     let jk : j < k = let m = length_columns a n first k fs in omega arith in
     let c = column_in j k (n + 1) jk in
     let q = first + j * (n + 1) in
-    let t : number_at a fs q ≡ number_at a es q = ap (number a) (ap (λ (x : List C). get_or x q z) e ∙ get_d_over es s (p + 1) q z (omega arith) (inr (omega arith))) in
+    let t : number_at a fs q ≡ number_at a es q = ap (number a) (ap (λ (x : List C). get_or x q z) e ∙ get_or_over es s (p + 1) q z (omega arith) (inr (omega arith))) in
     let u : numbers a (part (q + 1) n fs) ≡ numbers a (part (q + 1) n es) = ap (numbers a) (ap (part (q + 1) n) e ∙ part_other z es s (p + 1) (q + 1) n (omega arith) (omega arith) (inr (omega arith))) in
     let v : column_at a fs n q ≡ column_at a es n q = λ i. record { top = t i; low = u i } in
     column_of a n first k fs j d jk ∙ v ∙ sym (column_of a n first k es j d jk))
@@ -93,10 +93,10 @@ module _ {N C : Type 0} (a : Arithmetic N C) (n p k : ℕ) (cs : List C) (place 
   abbrev O : Outcome N
   O = worked a (column_at a cs n p) (normalised a (columns_at a cs n (p + (n + 1)) k))
 
-  pub normal_fails : (r : Result Verdict SheetFault) (ds : List C) → r ≡ answer_of_lem {N = N} overflow → normalised a (columns_at a cs n (p + (n + 1)) k) ≡ None → Within (p + (n + 1)) (k * (n + 1)) cs ds → Settled a O n p k cs r ds
+  pub normal_fails : (r : Result Verdict SheetFault) (ds : List C) → r ≡ answer_of {N = N} overflow → normalised a (columns_at a cs n (p + (n + 1)) k) ≡ None → Within (p + (n + 1)) (k * (n + 1)) cs ds → Settled a O n p k cs r ds
   normal_fails r ds er e w =
       let o : O ≡ overflow = ap (worked a (column_at a cs n p)) e in
-      settled_kept a n p k place O r cs ds (er ∙ ap answer_of_lem (sym o)) (ap (λ (x : Outcome N). main_after a x n cs) o) (within_wider w (omega arith) (omega arith))
+      settled_kept a n p k place O r cs ds (er ∙ ap answer_of (sym o)) (ap (λ (x : Outcome N). main_after a x n cs) o) (within_wider w (omega arith) (omega arith))
 
   module _ (ds : List C) (e1 : normalised a (columns_at a cs n (p + (n + 1)) k) ≡ Some (columns_at a ds n (p + (n + 1)) k)) (w1 : Within (p + (n + 1)) (k * (n + 1)) cs ds) where
     B_same : column_at a ds n p ≡ column_at a cs n p
@@ -115,10 +115,10 @@ module _ {N C : Type 0} (a : Arithmetic N C) (n p k : ℕ) (cs : List C) (place 
     wide1 : Within p (work_cells a n k) cs ds
     wide1 = within_wider w1 (omega arith) (omega arith)
 
-    pub rounds_fail : (r : Result Verdict SheetFault) (es : List C) → r ≡ answer_of_lem {N = N} overflow → rounds_at a ds n p k ≡ None → Within p (work_cells a n k) ds es → Settled a O n p k cs r es
+    pub rounds_fail : (r : Result Verdict SheetFault) (es : List C) → r ≡ answer_of {N = N} overflow → rounds_at a ds n p k ≡ None → Within p (work_cells a n k) ds es → Settled a O n p k cs r es
     rounds_fail r es er e w =
         let o : O ≡ overflow = after_normal ∙ ap (finish a) e in
-        settled_kept a n p k place O r cs es (er ∙ ap answer_of_lem (sym o)) (ap (λ (x : Outcome N). main_after a x n cs) o) (within_trans wide1 w)
+        settled_kept a n p k place O r cs es (er ∙ ap answer_of (sym o)) (ap (λ (x : Outcome N). main_after a x n cs) o) (within_trans wide1 w)
 
     module _ (l : ℕ) (es : List C) (e2 : rounds_at a ds n p k ≡ Some (l, work_at a es n p k)) (hl : l < k) (w2 : Within p (work_cells a n k) ds es) where
       after_rounds : O ≡ finish a (Some (l, work_at a es n p k))
@@ -130,16 +130,16 @@ module _ {N C : Type 0} (a : Arithmetic N C) (n p k : ℕ) (cs : List C) (place 
       pub length_2 : length es ≡ length cs
       length_2 = wide2.len
 
-      pub finish_fails : (r : Result Verdict SheetFault) (fs : List C) → r ≡ answer_of_lem {N = N} overflow → finish a (Some (l, work_at a es n p k)) ≡ overflow → Within p (work_cells a n k) es fs → Settled a O n p k cs r fs
+      pub finish_fails : (r : Result Verdict SheetFault) (fs : List C) → r ≡ answer_of {N = N} overflow → finish a (Some (l, work_at a es n p k)) ≡ overflow → Within p (work_cells a n k) es fs → Settled a O n p k cs r fs
       finish_fails r fs er e w =
           let o : O ≡ overflow = after_rounds ∙ e in
-          settled_kept a n p k place O r cs fs (er ∙ ap answer_of_lem (sym o)) (ap (λ (x : Outcome N). main_after a x n cs) o) (within_trans wide2 w)
+          settled_kept a n p k place O r cs fs (er ∙ ap answer_of (sym o)) (ap (λ (x : Outcome N). main_after a x n cs) o) (within_trans wide2 w)
 
-      pub finish_against : (fs : List C) → finish a (Some (l, work_at a es n p k)) ≡ contradicted → fs ≡ es → Settled a O n p k cs (answer_of_lem {N = N} contradicted) fs
+      pub finish_against : (fs : List C) → finish a (Some (l, work_at a es n p k)) ≡ contradicted → fs ≡ es → Settled a O n p k cs (answer_of {N = N} contradicted) fs
       finish_against fs e s =
           let o : O ≡ contradicted = after_rounds ∙ e in
           let w : Within p (work_cells a n k) cs fs = subst (Within p (work_cells a n k) cs) (sym s) wide2 in
-          settled_kept a n p k place O (answer_of_lem {N = N} contradicted) cs fs (ap answer_of_lem (sym o)) (ap (λ (x : Outcome N). main_after a x n cs) o) w
+          settled_kept a n p k place O (answer_of {N = N} contradicted) cs fs (ap answer_of (sym o)) (ap (λ (x : Outcome N). main_after a x n cs) o) w
 
       -- finish took the equation, and the moves' columns are those before it
       pub finish_takes : (fs gs : List C)

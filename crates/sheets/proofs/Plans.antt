@@ -1,6 +1,6 @@
 -- The plan of a choice: gathered unknown by unknown, and what it means.
 use Rattle.std.proofs.Common.{◌≡◌, ℕ, zero, suc, ◌+◌, ◌*◌, ◌<◌, ◌≤◌, List, [], ◌∷◌, ◌++◌, map, length, get_or, take, drop, set, ℤ, pos, ◌+ℤ◌, ◌*ℤ◌, Some, None, Option, sym, refl, ap, ◌∙◌, subst, arith}
-use Rattle.std.specs.List.{range_with_len as counting}
+use Rattle.std.specs.List.{range_with_len}
 use Rattle.std.proofs.lemmas.List.FromFn.{length-map-range_with_len, get_or-map-range_with_len, map-range_with_len_more}
 use Rattle.std.proofs.lemmas.List.{length-map, length_push, length-set, map-append, take_more_set, get_or-map}
 use Rattle.kinds.specs.Kind.{Arithmetic, Laws, Same}
@@ -101,7 +101,7 @@ module _ {N C : Type 0} (a : Arithmetic N C) where
       λ j. e j ∷ r j
 
   pub plan_long : (n : ℕ) (s : Contents N) (choice xs : List N) → plan_of a n s choice ≡ Some xs → length xs ≡ n
-  plan_long n s choice xs e = (gathered (map (picked a s choice) (counting 0 n)) xs e).long ∙ length-map-range_with_len (picked a s choice) 0 n
+  plan_long n s choice xs e = (gathered (map (picked a s choice) (range_with_len 0 n)) xs e).long ∙ length-map-range_with_len (picked a s choice) 0 n
 
   module _ (laws : Laws a) (n k : ℕ) (s : Contents N) (h : Measured n k s) (choice : List N) (ws : List ℤ) (same : SameLists a.modulus (meant a choice) ws) (many : length ws ≡ k) where
     abbrev plan_made : List ℤ
@@ -122,7 +122,7 @@ module _ {N C : Type 0} (a : Arithmetic N C) where
     -- the words of the plan are the plan that the choice makes
     pub plan_means : (xs : List N) → plan_of a n s choice ≡ Some xs → SameLists a.modulus (map a.write xs) plan_made
     plan_means xs e =
-        let g = gathered (map (picked a s choice) (counting 0 n)) xs e in
+        let g = gathered (map (picked a s choice) (range_with_len 0 n)) xs e in
         let lc = length-map-range_with_len (picked a s choice) 0 n in
         let lx = plan_long n s choice xs e in
         let lw = length-map xs a.write in
@@ -177,12 +177,12 @@ module _ {N C : Type 0} (a : Arithmetic N C) (s : Contents N) (choice : List N) 
   fills_more words i x w h f e ew = record {
     ys = f.ys ++ x ∷ [];
     long = length_push f.ys x ∙ ap (λ (j : ℕ). j + 1) f.long;
-    came = ap collected (map-range_with_len_more (picked a s choice) 0 i i (omega arith)) ∙ collected_push (map (picked a s choice) (counting 0 i)) f.ys (picked a s choice i) x f.came (sym e);
+    came = ap collected (map-range_with_len_more (picked a s choice) 0 i i (omega arith)) ∙ collected_push (map (picked a s choice) (range_with_len 0 i)) f.ys (picked a s choice i) x f.came (sym e);
     written = take_more_set words i w (let l = f.all in omega arith) ∙ (λ j. f.written j ++ ew j ∷ []) ∙ sym (map-append a.write f.ys (x ∷ []));
     all = length-set words i w ∙ f.all;
   }
 
   pub fills_none : (i : ℕ) → i < n → None ≡ picked a s choice i → plan_of a n s choice ≡ None
   fills_none i h e =
-      collected_none (map (picked a s choice) (counting 0 n)) i (let l = length-map-range_with_len (picked a s choice) 0 n in omega arith)
+      collected_none (map (picked a s choice) (range_with_len 0 n)) i (let l = length-map-range_with_len (picked a s choice) 0 n in omega arith)
       (get_or-map-range_with_len (picked a s choice) 0 n i i None h (omega arith) ∙ sym e)

@@ -11,9 +11,9 @@ use Rattle.plans.specs.Posting.{Outcome, taken, implied, contradicted, overflow}
 use Rattle.sheets.specs.declared.posting.Verdict.{Verdict}
 use Rattle.sheets.specs.Cells.{needed}
 use Rattle.sheets.specs.Law.{judgement_of, RefusalsExact}
-use Rattle.sheets.specs.Picking.{pick_refusal_lem}
-use Rattle.sheets.specs.Posted.{answer_of_lem}
-use Rattle.sheets.specs.Sheet.{Model, stands, done_unless, word_fault, post_refusal_lem, outcome_of, answer_unless, post_answer}
+use Rattle.sheets.specs.Picking.{pick_refusal}
+use Rattle.sheets.specs.Posted.{answer_of}
+use Rattle.sheets.specs.Sheet.{Model, stands, done_unless, word_fault, post_refusal, outcome_of, answer_unless, post_answer}
 use Rattle.sheets.specs.Words.{is_refused}
 use Rattle.sheets.proofs.Meanings.{find_refused, refused_find, find_admitted, admitted_find}
 
@@ -41,7 +41,7 @@ module _ {N C : Type 0} (a : Arithmetic N C) (m : Model C) (ws : List ℤ) where
   abbrev refusal : Bool → Bool → Option ℕ → Option SheetFault
   refusal s c w = cond s (cond c (word_fault w) (Some Count)) (Some NoSheet)
 
-  pub postable : post_refusal_lem a m ws ≡ None → Postable
+  pub postable : post_refusal a m ws ≡ None → Postable
   postable e = by (stands m) (eqb (length ws) (m.unknowns + 1)) (find (is_refused a) ws) refl refl refl e
     where
       by : (s c : Bool) (w : Option ℕ) → stands m ≡ s → eqb (length ws) (m.unknowns + 1) ≡ c → find (is_refused a) ws ≡ w → refusal s c w ≡ None → Postable
@@ -51,7 +51,7 @@ module _ {N C : Type 0} (a : Arithmetic N C) (m : Model C) (ws : List ℤ) where
       by true true None p q r e = record { stand = p; count = eqb-true (length ws) (m.unknowns + 1) q; all = find_admitted a ws r }
 
   -- such a refusal says nothing of the equation
-  pub refusal_silent : (fault : SheetFault) → post_refusal_lem a m ws ≡ Some fault → judgement_of (Err fault) ≡ None
+  pub refusal_silent : (fault : SheetFault) → post_refusal a m ws ≡ Some fault → judgement_of (Err fault) ≡ None
   refusal_silent fault e = by (stands m) (eqb (length ws) (m.unknowns + 1)) (find (is_refused a) ws) e
     where
       says : (x : SheetFault) → judgement_of (Err x) ≡ None → Some x ≡ Some fault → judgement_of (Err fault) ≡ None
@@ -67,13 +67,13 @@ module _ {N C : Type 0} (a : Arithmetic N C) (m : Model C) (ws : List ℤ) where
   answers o = answer_unless a o (outcome_of a m ws)
 
   -- no outcome is answered by a refusal
-  outcome_answer : (o : Outcome N) (fault : SheetFault) → judgement_of (Err fault) ≡ None → (fault ≡ Overflow → ⊥) → answer_of_lem o ≡ Err fault → ⊥
+  outcome_answer : (o : Outcome N) (fault : SheetFault) → judgement_of (Err fault) ≡ None → (fault ≡ Overflow → ⊥) → answer_of o ≡ Err fault → ⊥
   outcome_answer (taken t) fault j n e = let z : ◌≡◌ {A = ℕ} 0 1 = cc in omega arith
   outcome_answer implied fault j n e = let z : ◌≡◌ {A = ℕ} 0 1 = cc in omega arith
   outcome_answer contradicted fault j n e = let s : Contradicted ≡ fault = cc in let k = ap (λ (f : SheetFault). judgement_of (Err f)) s ∙ j in let z : ◌≡◌ {A = ℕ} 0 1 = cc in omega arith
   outcome_answer overflow fault j n e = n cc
 
-  outcome_overflow : (o : Outcome N) → answer_of_lem o ≡ Err Overflow → o ≡ overflow
+  outcome_overflow : (o : Outcome N) → answer_of o ≡ Err Overflow → o ≡ overflow
   outcome_overflow (taken t) e = let z : ◌≡◌ {A = ℕ} 0 1 = cc in absurd (omega arith)
   outcome_overflow implied e = let z : ◌≡◌ {A = ℕ} 0 1 = cc in absurd (omega arith)
   outcome_overflow contradicted e = let z : ◌≡◌ {A = ℕ} 0 1 = cc in absurd (omega arith)
@@ -113,7 +113,7 @@ module _ {N C : Type 0} (a : Arithmetic N C) (m : Model C) (ws : List ℤ) where
             no_sheet = (λ e. absurd (outcome_answer out NoSheet refl (λ z. no cc) e), λ k. no cc);
             count = (λ e. absurd (outcome_answer out Count refl (λ z. no cc) e), λ k. absurd (k.1 l));
             not_admitted = λ j. (λ e. absurd (outcome_answer out (Number (NotAdmitted j)) refl (λ z. no cc) e), λ k. no (let f = refused_find a ws j k.2 in cc));
-            cannot_store = (λ e. (p, l, find_admitted a ws r, outcome_overflow out e), λ k. ap answer_of_lem k.3);
+            cannot_store = (λ e. (p, l, find_admitted a ws r, outcome_overflow out e), λ k. ap answer_of k.3);
           }
 
 -- a choice that can be picked
@@ -124,7 +124,7 @@ module _ {N C : Type 0} (a : Arithmetic N C) (m : Model C) (choice : List ℤ) (
     pub words : len ≡ m.unknowns
     pub all : AllByRecursion (Admitted a) choice
 
-  pub pickable : pick_refusal_lem a m choice len ≡ None → Pickable
+  pub pickable : pick_refusal a m choice len ≡ None → Pickable
   pickable e = by (stands m) (eqb (length choice) m.moves) (eqb len m.unknowns) (find (is_refused a) choice) refl refl refl refl e
     where
       by : (s c d : Bool) (w : Option ℕ) → stands m ≡ s → eqb (length choice) m.moves ≡ c → eqb len m.unknowns ≡ d → find (is_refused a) choice ≡ w

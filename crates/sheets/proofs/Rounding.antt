@@ -11,14 +11,14 @@ use Rattle.sheets.specs.Work.{Only, column_at, columns_at, work_at, CameAt, Work
 use Rattle.sheets.proofs.Limits.{only_within, within_wider, within_trans}
 use Rattle.sheets.proofs.Places.{column_in}
 use Rattle.sheets.proofs.Standing.{part_other}
-use Rattle.sheets.proofs.Walks.{get_d_over}
+use Rattle.sheets.proofs.Walks.{get_or_over}
 
 module _ {N C : Type 0} (a : Arithmetic N C) (n : ℕ) where
   -- a column elsewhere is left
   pub column_other : (cs ds : List C) (p q : ℕ) → Only p (n + 1) cs ds → p + (n + 1) ≤ length cs → q + (n + 1) ≤ length cs → (q + (n + 1) ≤ p) ⊎ (p + (n + 1) ≤ q) → column_at a ds n q ≡ column_at a cs n q
   column_other cs ds p q (s, (l, e)) hp hq o =
       let z = a.to_cell a.zero in
-      let t : number_at a ds q ≡ number_at a cs q = ap (number a) (ap (λ (x : List C). get_or x q z) e ∙ get_d_over cs s p q z (omega arith) (⊎_elim (λ b. inl (omega arith)) (λ b. inr (omega arith)) o)) in
+      let t : number_at a ds q ≡ number_at a cs q = ap (number a) (ap (λ (x : List C). get_or x q z) e ∙ get_or_over cs s p q z (omega arith) (⊎_elim (λ b. inl (omega arith)) (λ b. inr (omega arith)) o)) in
       let u : numbers a (part (q + 1) n ds) ≡ numbers a (part (q + 1) n cs) = ap (numbers a) (ap (part (q + 1) n) e ∙ part_other z cs s p (q + 1) n (omega arith) (omega arith) (⊎_elim (λ b. inl (omega arith)) (λ b. inr (omega arith)) o)) in
       λ j. record { top = t j; low = u j }
 

@@ -8,7 +8,7 @@ use Rattle.sheets.specs.declared.cells.Overflow.{Overflow}
 use Rattle.sheets.specs.Cells.{part, number, or_zero, numbers, held}
 use Rattle.sheets.specs.Combining.{Combined}
 use Rattle.sheets.specs.Work.{column_at, CameAt}
-use Rattle.sheets.proofs.Walks.{get_d_over}
+use Rattle.sheets.proofs.Walks.{get_or_over}
 
 -- what is put over some places is read there
 pub part_over : {X : Type 0} (cells s : List X) (p h : ℕ) → p ≤ length cells → length s ≡ h → part p h (over cells p s) ≡ s
@@ -32,7 +32,7 @@ part_other z cells s p r h k m o =
     let ih : i < h = omega arith in
     get_or-take h (drop r (over cells p s)) i z ih
     ∙ get_or-drop r (over cells p s) i z
-    ∙ get_d_over cells s p (r + i) z (omega arith) (⊎_elim (λ q. inl (omega arith)) (λ q. inr (omega arith)) o)
+    ∙ get_or_over cells s p (r + i) z (omega arith) (⊎_elim (λ q. inl (omega arith)) (λ q. inr (omega arith)) o)
     ∙ sym (get_or-take h (drop r cells) i z ih ∙ get_or-drop r cells i z))
 
 module _ {N C : Type 0} (a : Arithmetic N C) where

@@ -4,8 +4,8 @@ ghost use Rattle.std.specs.Int.{w32};
 ghost use Rattle.std.specs.List.{AllByRecursion};
 ghost use Rattle.sheets.specs.Clearing.{clear_answer, clear_left};
 ghost use Rattle.sheets.specs.Law.{StandsFor, Sound, SpareZero, RefusalsExact, PostLaw, ClearLaw, PickLaw};
-ghost use Rattle.sheets.specs.Picking.{pick_refusal_lem as pick_refusal_of, pick_answer, pick_left};
-ghost use Rattle.sheets.specs.Sheet.{model, model_of, outline_of, asked as asked_of, checked, opened, stands as stands_of, done_unless, post_refusal_lem as post_refusal_of, post_answer, post_left};
+ghost use Rattle.sheets.specs.Picking.{pick_refusal, pick_answer, pick_left};
+ghost use Rattle.sheets.specs.Sheet.{model, model_of, outline_of, asked as asked_of, checked, opened, stands as stands_of, done_unless, post_refusal, post_answer, post_left};
 ghost use Rattle.lines.specs.Page.{model as page_model};
 ghost use Rattle.sheets.specs.Showing.{show_answer, show_left};
 
@@ -113,7 +113,7 @@ impl<K: Kind> Sheet<'_, K> {
     // Whether words can be posted, before any cell is touched.
     fn check_post(&self, words: &[i32]) -> Result<(), SheetFault>
         ensures fit { OnOk result (AllByRecursion (FitsSigned w32) words.now) }
-        ensures value { result ≡ done_unless (post_refusal_of K.Kind.arith (model self.now) words.now) }
+        ensures value { result ≡ done_unless (post_refusal K.Kind.arith (model self.now) words.now) }
     {
         if !self.stands() {
             return Err(SheetFault::NoSheet);
@@ -133,7 +133,7 @@ impl<K: Kind> Sheet<'_, K> {
         ensures law { PostLaw K.Kind.arith (model self.old) words.now result (model self.new) }
         ensures sound { Sound K.Kind.arith (model self.old) → Sound K.Kind.arith (model self.new) }
         ensures spare { SpareZero K.Kind.arith (model self.old) → SpareZero K.Kind.arith (model self.new) }
-        ensures wiped { post_refusal_of K.Kind.arith (model self.old) words.now ≡ None → SpareZero K.Kind.arith (model self.new) }
+        ensures wiped { post_refusal K.Kind.arith (model self.old) words.now ≡ None → SpareZero K.Kind.arith (model self.new) }
     {
         self.check_post(words)?;
         let n = self.shape.unknowns;
@@ -167,7 +167,7 @@ impl<K: Kind> Sheet<'_, K> {
     // Whether a plan can be picked, before any sum is made: `len` words are lent for it.
     fn check_pick(&self, choice: &[i32], len: usize) -> Result<(), SheetFault>
         ensures fit { OnOk result (AllByRecursion (FitsSigned w32) choice.now) }
-        ensures value { result ≡ done_unless (pick_refusal_of K.Kind.arith (model self.now) choice.now len) }
+        ensures value { result ≡ done_unless (pick_refusal K.Kind.arith (model self.now) choice.now len) }
     {
         if !self.stands() {
             return Err(SheetFault::NoSheet);

@@ -5,7 +5,7 @@ use Rattle.sheets.specs.declared.shape.Shape.{Shape}
 use Rattle.sheets.specs.Cells.{main_cells}
 use Rattle.sheets.specs.Work.{work_at, Turned, Ended}
 use Rattle.sheets.proofs.Limits.{within_same}
-use Rattle.sheets.proofs.Turning.{pivots, pivot_below, falls, far_more, far_none, far_stop}
+use Rattle.sheets.proofs.Turning.{pivots, pivot_below, falls, so_far_more, so_far_none, so_far_stop}
 use Rattle.sheets.proofs.table.Table.rounds.Goals as goal
 
 pub returns-in_err-pivot-clause-ended : goal.returns-in_err-pivot-clause-ended
@@ -15,7 +15,7 @@ returns-in_err-pivot-clause-ended g c =
     let n = s.shape.unknowns in
     let e : c.largest.result ≡ None = search rules in
     let q = err_from_is_err_and c.from_residual.result c.from_residual.ensures.1 in
-    rw q.1 (far_none a g.met.K.Kind.kept n (main_cells n) s.shape.moves s.cells.now (pivots a n (main_cells n) s.shape.moves s.cells.now ∙ sym c.largest.ensures.value ∙ e), within_same)
+    rw q.1 (so_far_none a g.met.K.Kind.kept n (main_cells n) s.shape.moves s.cells.now (pivots a n (main_cells n) s.shape.moves s.cells.now ∙ sym c.largest.ensures.value ∙ e), within_same)
 
 pub loop-runner-init : goal.loop-runner-init
 loop-runner-init g c =
@@ -62,7 +62,7 @@ loop-runner-preserved g c =
       held = c.turn.ensures.held ∙ c.loop-runner.invariant.held;
       shape = c.turn.ensures.shape ∙ c.loop-runner.invariant.shape;
       pivot = v.1;
-      so_far = far_more a g.met.K.Kind.kept n p k c.args.self.now.cells.now cs ds c.loop-runner.invariant.so_far v.0 v.2;
+      so_far = so_far_more a g.met.K.Kind.kept n p k c.args.self.now.cells.now cs ds c.loop-runner.invariant.so_far v.0 v.2;
     }
 
 pub returns-clause-ended : goal.returns-clause-ended
@@ -79,4 +79,4 @@ returns-clause-ended g c =
     let e : c.turn.result ≡ Ok None = search rules in
     let v = subst (λ (r : _). Turned a (turned a (work_at a cs n p k)) l n p k cs r ds) e w in
     subst (λ (x : List g.row.K-Cell.Denot). Ended a n p k c.args.self.now.cells.now (Ok l) x) (sym v.1)
-    (far_stop a g.met.K.Kind.kept n p k c.args.self.now.cells.now cs l c.loop-runner.invariant.so_far (pivot_below a n p k cs l c.loop-runner.invariant.pivot) v.0)
+    (so_far_stop a g.met.K.Kind.kept n p k c.args.self.now.cells.now cs l c.loop-runner.invariant.so_far (pivot_below a n p k cs l c.loop-runner.invariant.pivot) v.0)
