@@ -3,9 +3,10 @@
 #![tactic(auto)]
 
 ghost use Rattle.std.specs.Prelude.{◌≡◌, ◌+◌, false, [], ◌∷◌, length, Some, None, MatchResult};
+ghost use Rattle.kinds.specs.Equation.{equation_of};
 ghost use Rattle.lines.specs.Hex.{find};
 ghost use Rattle.lines.specs.Line.{is_lowest, numbers, refusal};
-ghost use Rattle.costing.specs.Costing.{balance_of, equation_of, judgement, verdict, refusal_number, answer, Means};
+ghost use Rattle.costing.specs.Costing.{balance_of, judgement, verdict, refusal_number, answer, Means};
 ghost use Rattle.costing.specs.Samples.{Readings, NumbersRead, TooLong, Verdicts, NoWrong};
 
 use faults::LineFault;

@@ -9,9 +9,9 @@ use Rattle.kinds.specs.Equation.{Equation, dot, Meets}
 use Rattle.kinds.specs.Ring.{ring}
 use Rattle.kinds.specs.Sames.{same_eq, same_refl, same_sym, same_trans, same_add}
 use Rattle.plans.specs.Posting.{without}
-use Rattle.plans.specs.Solution.{SameLists, also, MeetsAll, Plan, plus, made, General, is_taken, is_implied, is_contradicted, Verdict, Sized}
+use Rattle.plans.specs.Solution.{SameLists, also, MeetsAll, Plan, made, General, is_taken, is_implied, is_contradicted, Verdict, Sized}
 use Rattle.plans.proofs.SameLists.{lists_refl, lists_eq, lists_sym, lists_trans, lists_head, SameColumns, columns_refl, columns_length}
-use Rattle.plans.proofs.Vectors.{plus_length, shift, shift_length, put_in, put_in_length, without_length, made_without, put_in_without, put_in_once, made_same, dot_same, first, rest, lists_rest, top_made, made_split, under, made_under, top_made_none, top_made_one, map_without}
+use Rattle.plans.proofs.Vectors.{made_length, shift, shift_length, put_in, put_in_length, without_length, made_without, put_in_without, put_in_once, made_same, dot_same, first, rest, lists_rest, top_made, made_split, under, made_under, top_made_none, top_made_one, map_without}
 use Rattle.plans.proofs.Changes.{Change}
 
 -- a plan under what the equation comes to at it, its right side taken off
@@ -36,11 +36,6 @@ tells_change {m} {n} {es} {e} {u} {u'} {vs} {vs'} t c = record {
 }
 
 -- what the columns tell at the start
-made_length : (u : List ℤ) (vs : List (List ℤ)) (y : List ℤ) → length (made u vs y) ≡ length u
-made_length u [] y = refl
-made_length u (v ∷ vs) [] = refl
-made_length u (v ∷ vs) (y ∷ ys) = made_length (plus u y v) vs ys ∙ plus_length u y v
-
 pub tells_start : {m n : ℕ} {es : List Equation} {e : Equation} (u : List ℤ) (vs : List (List ℤ)) {U : List ℤ} {VS : List (List ℤ)} → General m n es u vs → length u ≡ n → Sized n vs →
     SameLists m U ((dot e.coefficients u +ℤ neg_ℤ e.right) ∷ u) → SameColumns m VS (map (under e.coefficients) vs) → Tells m n es e U VS
 tells_start {m} {n} {es} {e} u vs {U} {VS} g k s hu hv = record {

@@ -4,13 +4,13 @@ use Rattle.std.proofs.lemmas.Bool.{eqb-true, eqb-false, ltb-true}
 use Rattle.faults.specs.declared.SheetFault.{SheetFault}
 use Rattle.faults.specs.declared.SheetFault.TheVariants.{NoSheet, Count}
 use Rattle.kinds.specs.Kind.{Arithmetic}
-use Rattle.kinds.specs.Equation.{Equation}
+use Rattle.kinds.specs.Equation.{Equation, equation_of}
 use Rattle.lines.specs.Hex.{find}
 use Rattle.plans.specs.Posting.{Outcome, taken, implied, contradicted, overflow}
 use Rattle.plans.specs.Solution.{Judgement, is_taken, is_implied, is_contradicted, Verdict as Judged, Holds}
 use Rattle.sheets.specs.Cells.{needed, contents_in}
 use Rattle.sheets.specs.Clearing.{clear_answer, clear_left}
-use Rattle.sheets.specs.Law.{equation_of, judgement_of, in_force_after, in_force_cleared, StandsFor, Sound}
+use Rattle.sheets.specs.Law.{judgement_of, in_force_after, in_force_cleared, StandsFor, Sound}
 use Rattle.sheets.specs.Sheet.{Model, stands, word_fault, outcome_of, answer_unless, post_answer, post_left}
 use Rattle.sheets.specs.Words.{is_refused}
 use Rattle.sheets.proofs.Refusals.{standing}

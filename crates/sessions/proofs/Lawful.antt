@@ -9,18 +9,17 @@ use Rattle.faults.specs.declared.NumberFault.TheVariants.{Lowest, Modulus, Unkno
 use Rattle.faults.specs.declared.LineFault.{LineFault}
 use Rattle.faults.specs.declared.SheetFault.{SheetFault}
 use Rattle.faults.specs.declared.SheetFault.TheVariants.{Page, Line, Number, NoSheet, Count, FewCells, Overflow, Contradicted}
-use Rattle.kinds.specs.Equation.{Equation}
+use Rattle.kinds.specs.Equation.{Equation, equation_of}
 use Rattle.kinds.specs.Kind.{Arithmetic, Laws}
 use Rattle.kinds.specs.Weekday.{weekdays}
 use Rattle.kinds.specs.Whole.{wholes}
 use Rattle.kinds.specs.Weekdays.{weekday_laws}
 use Rattle.kinds.specs.Wholes.{whole_laws}
 use Rattle.plans.specs.Solution.{Judgement, Verdict as Judged}
-use Rattle.sheets.specs.Law.{equation_of, StandsFor, in_force_after as direct_after, judgement_of as direct_judgement}
+use Rattle.sheets.specs.Law.{StandsFor, in_force_after as direct_after, judgement_of as direct_judgement}
 use Rattle.sheets.specs.Picking.{pick_refusal, plan_in, pick_unless}
 use Rattle.sheets.specs.Sheet.{Model, post_answer, post_left}
 use Rattle.sheets.specs.declared.posting.Verdict.{Verdict}
-use Rattle.sheets.specs.declared.posting.Verdict.TheVariants.{Taken, Implied}
 use Rattle.sheets.proofs.OneStep.{new_stands, open_law, post_law}
 use Rattle.sessions.specs.Frames.{known, frame_kind, placed}
 use Rattle.sessions.specs.Law.{SessionStands, modulus_of, in_force_after, judgement_of, FrameLaw, LineLaw}
@@ -64,8 +63,7 @@ numbers_fit known bytes e =
 
 -- a direct posting's answer and a line's say the same
 force_same : (r : Result Verdict SheetFault) (e : Equation) (es : List Equation) → direct_after r e es ≡ in_force_after (posted_done r) e es
-force_same (Ok Taken) e es = refl
-force_same (Ok Implied) e es = refl
+force_same (Ok verdict) e es = refl
 force_same (Err fault) e es = refl
 
 judgement_placed : (fault : SheetFault) → judgement_of (Err (placed fault)) ≡ direct_judgement (Err fault)
@@ -83,8 +81,7 @@ judgement_placed Overflow = refl
 judgement_placed Contradicted = refl
 
 judgement_same : (r : Result Verdict SheetFault) → judgement_of (posted_done r) ≡ direct_judgement r
-judgement_same (Ok Taken) = refl
-judgement_same (Ok Implied) = refl
+judgement_same (Ok verdict) = refl
 judgement_same (Err fault) = judgement_placed fault
 
 module _ {N C : Type 0} (a : Arithmetic N C) (laws : Laws a) (m : Model C) (few : m.moves ≤ m.unknowns) (ws : List ℤ) (fit : AllByRecursion (SFits w32) ws) where

@@ -14,15 +14,18 @@ use Rattle.sessions.specs.declared.frame.Request.TheVariants.{Equation, Clear, P
 use Rattle.sessions.specs.declared.frame.Done.{Done}
 use Rattle.sessions.specs.declared.frame.Done.TheVariants.{Posted, Cleared, Picked, Shown}
 
+-- an answer to a line, from a direct call's: a fault gets its place in the line
+abbrev pub in_line : {X Y : Type 0} → (X → Y) → Result X SheetFault → Result Y SheetFault
+in_line f (Ok x) = Ok (f x)
+in_line f (Err fault) = Err (placed fault)
+
 -- a check's answer
 abbrev pub checked_in_line : Result Unit SheetFault → Result Unit SheetFault
-checked_in_line (Ok _) = Ok tt
-checked_in_line (Err fault) = Err (placed fault)
+checked_in_line r = in_line (λ _. tt) r
 
 -- a posting's answer
 abbrev pub posted_done : Result Verdict SheetFault → Result Done SheetFault
-posted_done (Ok verdict) = Ok (Posted verdict)
-posted_done (Err fault) = Err (placed fault)
+posted_done r = in_line Posted r
 
 -- a clearing's or a showing's line has no numbers
 abbrev pub numbers_refusal : {C : Type 0} → Model C → List ℤ → Option SheetFault
@@ -42,8 +45,7 @@ clear_done m ws = done_unless (numbers_refusal m ws) Cleared
 
 -- a picking's answer
 abbrev pub picked_done : Result Unit SheetFault → Result Done SheetFault
-picked_done (Ok _) = Ok Picked
-picked_done (Err fault) = Err (placed fault)
+picked_done r = in_line (λ _. Picked) r
 
 module _ {N C : Type 0} (a : Arithmetic N C) where
   -- the sheet that a clearing leaves

@@ -1,7 +1,7 @@
 -- What a posting comes to, from its steps.
-use Rattle.std.proofs.Common.{◌≡◌, ℕ, suc, ◌+◌, ◌-◌, ◌*◌, ◌<◌, ◌≤◌, List, ◌++◌, map, length, get_or, take, drop, Some, None, Ok, Result, sym, refl, ap, ◌∙◌, subst, inr, add-mul, zero-add, mul-one, mul-add, arith}
-use Rattle.std.specs.List.{flat_map}
-use Rattle.std.proofs.lemmas.List.{length-append, length-map, length-replicate, take_at, drop_at, drop-drop, get_or-take, ext_get_or}
+use Rattle.std.proofs.Common.{◌≡◌, ℕ, suc, ◌+◌, ◌-◌, ◌*◌, ◌<◌, ◌≤◌, List, [], ◌++◌, map, length, get_or, take, drop, Some, None, Ok, Result, sym, refl, ap, ◌∙◌, subst, inr, zero-add, mul-one, mul-add, arith}
+use Rattle.std.proofs.ByRecursion.{All-from_get_or}
+use Rattle.std.proofs.lemmas.List.{length-replicate, take_at, drop_at, drop-drop, get_or-take}
 use Rattle.faults.specs.declared.SheetFault.{SheetFault}
 use Rattle.kinds.specs.Kind.{Arithmetic}
 use Rattle.lines.specs.Page.{over}
@@ -9,18 +9,18 @@ use Rattle.plans.specs.Posting.{Column, Outcome, taken, contradicted, overflow, 
 use Rattle.plans.specs.Sheet.{Contents}
 use Rattle.sheets.specs.declared.posting.Verdict.{Verdict}
 use Rattle.sheets.specs.declared.posting.Verdict.TheVariants.{Taken}
-use Rattle.sheets.specs.Cells.{main_cells, spare_cells, needed, part, number, numbers, number_at, held, zero_cells, main_of}
+use Rattle.sheets.specs.Cells.{main_cells, spare_cells, needed, part, number, numbers, number_at, zero_cells, main_of}
 use Rattle.sheets.specs.Combining.{Within}
 use Rattle.sheets.specs.Posted.{answer_of, main_after, cells_after, Settled}
 use Rattle.sheets.specs.Work.{Only, column_at, columns_at, work_at, work_cells, rounds_at, left_at}
-use Rattle.sheets.proofs.Closing.{length_moves, length_L}
+use Rattle.sheets.proofs.Closing.{each_left, length_L}
 use Rattle.sheets.proofs.Laying.{part_before}
 use Rattle.sheets.proofs.Limits.{only_within, within_wider, within_trans}
 use Rattle.sheets.proofs.Numbers.{length_numbers_part}
 use Rattle.sheets.proofs.Places.{column_in}
-use Rattle.sheets.proofs.Rounding.{column_of, length_columns}
-use Rattle.sheets.proofs.Standing.{length_over, part_other}
-use Rattle.sheets.proofs.Walks.{get_or_over}
+use Rattle.sheets.proofs.Reading.{length_main}
+use Rattle.sheets.proofs.Rounding.{columns_kept}
+use Rattle.sheets.proofs.Standing.{length_over}
 
 module _ {N C : Type 0} (a : Arithmetic N C) (n p k : ℕ) (place : p ≡ n * (n + 1)) where
   -- an outcome that leaves the main cells
@@ -61,33 +61,14 @@ length_left a n p k l cs place few room hl =
     let m = mul-add n n 1 in
     let o = mul-one n in
     let main : n + n * n ≤ p = omega arith in
-    let F = numbers a (part (p + 1) n cs) in
-    let J = flat_map (λ m. m) (left_at a cs n p k l).moves in
-    let lf = length_numbers_part a cs (p + 1) n (omega arith) in
-    let lj : length J ≡ (k - 1) * n = sym (length-map J a.to_cell) ∙ length_moves a n p k l cs main few room hl in
-    let ll = length_L a n p k l cs main few room hl in
-    let e : (k - 1) + (n - (k - 1)) ≡ n = omega arith in
-    let f = ap (λ (x : ℕ). x * n) e in
-    let g = add-mul (k - 1) (n - (k - 1)) n in
-    let q : (n - length (left_at a cs n p k l).moves) * n ≡ (n - (k - 1)) * n = ap (λ (x : ℕ). (n - x) * n) ll in
-    length-append (held a (F ++ J)) (zero_cells a ((n - length (left_at a cs n p k l).moves) * n))
-    ∙ (let x = length-map (F ++ J) a.to_cell in let y = length-append F J in let w = length-replicate ((n - length (left_at a cs n p k l).moves) * n) (a.to_cell a.zero) in omega arith)
-
--- a change of B's entries leaves the moves' columns
-columns_after : {N C : Type 0} (a : Arithmetic N C) (n p k : ℕ) (es fs : List C) → Only (p + 1) n es fs → p + ((n + 1) + k * (n + 1)) ≤ length es → columns_at a fs n (p + (n + 1)) k ≡ columns_at a es n (p + (n + 1)) k
-columns_after {N} {C} a n p k es fs (s, (l, e)) room =
-    let z = a.to_cell a.zero in
-    let d = column_at a es n 0 in
-    let first = p + (n + 1) in
-    ext_get_or d (columns_at a fs n first k) (columns_at a es n first k) (length_columns a n first k fs ∙ sym (length_columns a n first k es))
-    (λ j b.
-    let jk : j < k = let m = length_columns a n first k fs in omega arith in
-    let c = column_in j k (n + 1) jk in
-    let q = first + j * (n + 1) in
-    let t : number_at a fs q ≡ number_at a es q = ap (number a) (ap (λ (x : List C). get_or x q z) e ∙ get_or_over es s (p + 1) q z (omega arith) (inr (omega arith))) in
-    let u : numbers a (part (q + 1) n fs) ≡ numbers a (part (q + 1) n es) = ap (numbers a) (ap (part (q + 1) n) e ∙ part_other z es s (p + 1) (q + 1) n (omega arith) (omega arith) (inr (omega arith))) in
-    let v : column_at a fs n q ≡ column_at a es n q = λ i. record { top = t i; low = u i } in
-    column_of a n first k fs j d jk ∙ v ∙ sym (column_of a n first k es j d jk))
+    let s = left_at a cs n p k l in
+    length_main a n (k - 1) s
+    (record {
+      fixed_length = length_numbers_part a cs (p + 1) n (omega arith);
+      moves_length = All-from_get_or (λ v. length v ≡ n) s.moves [] (each_left a n p k l cs main few room hl);
+      many = length_L a n p k l cs main few room hl;
+    })
+    (omega arith)
 
 module _ {N C : Type 0} (a : Arithmetic N C) (n p k : ℕ) (cs : List C) (place : p ≡ n * (n + 1)) (few : k ≤ n) (room : p + ((n + 1) + k * (n + 1)) ≤ length cs) where
   abbrev O : Outcome N
@@ -149,7 +130,7 @@ module _ {N C : Type 0} (a : Arithmetic N C) (n p k : ℕ) (cs : List C) (place 
           let z = a.to_cell a.zero in
           let le = length_2 in
           let m : left_at a fs n p k l ≡ record { fixed = numbers a (part (p + 1) n fs); moves = map (λ c. c.low) (without (columns_at a es n (p + (n + 1)) k) l) }
-          = ap (λ (x : List (Column N)). record { fixed = numbers a (part (p + 1) n fs); moves = map (λ c. c.low) (without x l) }) (columns_after a n p k es fs o (omega arith)) in
+          = ap (λ (x : List (Column N)). record { fixed = numbers a (part (p + 1) n fs); moves = map (λ c. c.low) (without x l) }) (columns_kept a n (p + (n + 1)) k es fs (omega arith) (p + 1) n o (omega arith) (inr (omega arith))) in
           let w3 : Within p (work_cells a n k) es fs = only_within z (p + 1) n p (work_cells a n k) es fs o (omega arith) (omega arith) (omega arith) in
           let q : O ≡ taken (left_at a fs n p k l) = after_rounds ∙ e ∙ ap taken (sym m) in
           let w : Within p (work_cells a n k) cs fs = within_trans wide2 w3 in

@@ -52,8 +52,8 @@ module _ {N C : Type 0} (a : Arithmetic N C) (q : N) where
     where
       by : (o : Option N) (s : Option (List N)) → adds a u q v ≡ s → then o (λ r. then s (λ rs. Some (r ∷ rs))) ≡ Some ys → ((zs : List N) → adds a u q v ≡ Some zs → adds a (u ++ x ∷ []) q (v ++ y ∷ []) ≡ Some (zs ++ r ∷ []))
           → then o (λ r. then (adds a (u ++ x ∷ []) q (v ++ y ∷ [])) (λ rs. Some (r ∷ rs))) ≡ Some (ys ++ r ∷ [])
-      by None s h e rest = let z : ◌≡◌ {A = ℕ} 0 1 = cc in absurd (omega arith)
-      by (Some t) None h e rest = let z : ◌≡◌ {A = ℕ} 0 1 = cc in absurd (omega arith)
+      by None s h e rest = absurd cc
+      by (Some t) None h e rest = absurd cc
       by (Some t) (Some zs) h e rest =
           let z : t ∷ zs ≡ ys = cc in
           ap (λ (o : Option (List N)). then o (λ rs. Some (t ∷ rs))) (rest zs h) ∙ ap (λ (k : List N). Some (k ++ r ∷ [])) z
