@@ -22,7 +22,7 @@ pub const EQUATION: u8 = 0x02;
 pub const PLAN: u8 = 0x82;
 
 // Why there is no answer.
-#[derive(Clone, Copy)]
+#[derive(Clone, Copy, Debug, PartialEq, Eq)]
 pub enum Refusal {
     // The first line is refused.
     Equation(LineFault),

@@ -10,11 +10,8 @@ use crate::frame::{Done, Request, placed_in_line};
 use faults::{LineFault, SheetFault};
 use kinds::kind::Kind;
 use lines::page::Page;
-use sheets::shape::Outline;
+use sheets::shape::{MOST_UNKNOWNS, Outline};
 use sheets::sheet::{Sheet, check};
-
-// As many unknowns as a sheet may have.
-pub(crate) const MOST_UNKNOWNS: usize = 24;
 
 // Opens a new sheet, unless the check refuses.
 pub(crate) fn open_on<K: Kind>(

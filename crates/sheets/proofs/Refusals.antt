@@ -107,9 +107,9 @@ module _ {N C : Type 0} (a : Arithmetic N C) (m : Model C) (ws : List ℤ) where
           let l = eqb-true (length ws) (m.unknowns + 1) q in
           let out = outcome_of a m ws in
           record {
-            no_sheet = (λ e. absurd (outcome_answer out NoSheet refl (λ z. absurd cc) e), λ k. absurd cc);
-            count = (λ e. absurd (outcome_answer out Count refl (λ z. absurd cc) e), λ k. absurd (k.1 l));
-            not_admitted = λ j. (λ e. absurd (outcome_answer out (Number (NotAdmitted j)) refl (λ z. absurd cc) e), λ k. absurd (let f = refused_find a ws j k.2 in cc));
+            no_sheet = (λ e. absurd (outcome_answer out NoSheet refl (λ z. cc) e), λ k. absurd cc);
+            count = (λ e. absurd (outcome_answer out Count refl (λ z. cc) e), λ k. absurd (k.1 l));
+            not_admitted = λ j. (λ e. absurd (outcome_answer out (Number (NotAdmitted j)) refl (λ z. cc) e), λ k. absurd (let f = refused_find a ws j k.2 in cc));
             cannot_store = (λ e. (p, l, find_admitted a ws r, outcome_overflow out e), λ k. ap answer_of k.3);
           }
 

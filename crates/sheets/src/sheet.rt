@@ -12,7 +12,7 @@ ghost use Rattle.sheets.specs.Showing.{show_answer, show_left};
 use crate::cells::needed_cells;
 use crate::opening::lay_sheet;
 use crate::posting::{Verdict, post_words};
-use crate::shape::{Outline, Shape};
+use crate::shape::{MOST_UNKNOWNS, Outline, Shape};
 use crate::words::check_words;
 use faults::{NumberFault, SheetFault};
 use kinds::kind::Kind;
@@ -33,7 +33,7 @@ pub struct Sheet<'a, K: Kind> {
 fn asked(unknowns: i32, list: i32, len: usize) -> Result<(usize, u16), SheetFault>
     ensures { result ≡ asked_of unknowns list len }
 {
-    if !(1..=24).contains(&unknowns) {
+    if !(1..=MOST_UNKNOWNS as i32).contains(&unknowns) {
         return Err(SheetFault::Number(NumberFault::Unknowns));
     }
     let list = u16::try_from(list).map_err(|_| SheetFault::Number(NumberFault::ListNumber))?;
@@ -204,7 +204,7 @@ impl<K: Kind> Sheet<'_, K> {
             0
         };
         if let Some(fault) = page.text_refusal(len) {
-            return Err(SheetFault::Page(fault));
+            return Err(fault.into());
         }
         if !stands {
             return Err(SheetFault::NoSheet);
