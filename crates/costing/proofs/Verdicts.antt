@@ -3,7 +3,7 @@ use Rattle.std.proofs.Common.{◌≡◌, ℕ, ◌≤◌, Bool, true, false, cond
 use borrow.Author.Differences.{ints}
 use Rattle.std.proofs.lemmas.Bool.{eqb-true, eqb-false}
 use Rattle.kinds.specs.declared.whole.Whole.{Whole}
-use Rattle.kinds.specs.Equation.{dot}
+use Rattle.kinds.specs.Equation.{equation_of, dot}
 use Rattle.kinds.specs.Sames.{same_eq}
 use Rattle.kinds.specs.Wholes.{equal, abs_zero}
 use Rattle.faults.specs.declared.NumberFault.{NumberFault}
@@ -14,7 +14,7 @@ use Rattle.faults.specs.Faults.{number_fault, line_fault}
 use Rattle.lines.specs.Line.{numbers, refusal}
 use Rattle.costing.specs.declared.Refusal.{Refusal}
 use Rattle.costing.specs.declared.Refusal.TheVariants.{Equation as InEquation, Plan as InPlan, Count, Overflow}
-use Rattle.costing.specs.Costing.{equation_of, balance_of, counts_fit, judged, judgement, unless, verdict, refusal_number, answer, LinesMeet, Means}
+use Rattle.costing.specs.Costing.{balance_of, counts_fit, judged, judgement, unless, verdict, refusal_number, answer, LinesMeet, Means}
 use Rattle.costing.proofs.Sums.{running_from}
 
 unless_ok : (o : Option LineFault) (how : LineFault → Refusal) (rest : Result Bool Refusal) (b : Bool) → unless o how rest ≡ Ok b → rest ≡ Ok b

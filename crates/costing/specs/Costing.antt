@@ -1,17 +1,13 @@
 -- The costing call: an equation line and a plan line, and whether the plan meets the equation. Assumes nothing.
-use Rattle.std.specs.Prelude.{◌≡◌, ℕ, ◌+◌, Bool, true, false, cond, ◌&&◌, List, [], ◌∷◌, length, take, ℤ, pos, ◌+ℤ◌, ◌*ℤ◌, neg_ℤ, Some, None, Ok, Err, Option, Result, ◌==◌, nat_lt, slice_index_or, unsigned_abs}
+use Rattle.std.specs.Prelude.{◌≡◌, ℕ, ◌+◌, Bool, true, false, cond, ◌&&◌, List, [], ◌∷◌, length, ℤ, pos, ◌+ℤ◌, ◌*ℤ◌, neg_ℤ, Some, None, Ok, Err, Option, Result, ◌==◌, nat_lt, unsigned_abs}
 use Rattle.kinds.specs.declared.whole.Whole.{Whole}
-use Rattle.kinds.specs.Equation.{Equation, Meets}
+use Rattle.kinds.specs.Equation.{Equation, equation_of, Meets}
 use Rattle.kinds.specs.Whole.{fitted}
 use Rattle.faults.specs.declared.LineFault.{LineFault}
 use Rattle.faults.specs.Faults.{line_fault}
 use Rattle.lines.specs.Line.{numbers, refusal}
 use Rattle.costing.specs.declared.Refusal.{Refusal}
 use Rattle.costing.specs.declared.Refusal.TheVariants.{Equation as InEquation, Plan as InPlan, Count, Overflow}
-
--- the equation of the numbers of a line, with n coefficients: the right side stands behind them
-abbrev pub equation_of : ℕ → List ℤ → Equation
-equation_of n ws = record { coefficients = take n ws; right = slice_index_or ws n (pos 0) }
 
 -- the running sum from s of coefficient × entry; none as soon as it leaves the whole kind
 abbrev pub running : Option Whole → List ℤ → List ℤ → Option Whole

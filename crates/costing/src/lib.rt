@@ -3,9 +3,10 @@
 #![tactic(auto)]
 
 ghost use Rattle.std.specs.Prelude.{◌≡◌, ◌+◌, false, [], ◌∷◌, length, Some, None, MatchResult};
+ghost use Rattle.kinds.specs.Equation.{equation_of};
 ghost use Rattle.lines.specs.Hex.{find};
 ghost use Rattle.lines.specs.Line.{is_lowest, numbers, refusal};
-ghost use Rattle.costing.specs.Costing.{balance_of, equation_of, judgement, verdict, refusal_number, answer, Means};
+ghost use Rattle.costing.specs.Costing.{balance_of, judgement, verdict, refusal_number, answer, Means};
 ghost use Rattle.costing.specs.Samples.{Readings, NumbersRead, TooLong, Verdicts, NoWrong};
 
 use faults::LineFault;
@@ -22,7 +23,7 @@ pub const EQUATION: u8 = 0x02;
 pub const PLAN: u8 = 0x82;
 
 // Why there is no answer.
-#[derive(Clone, Copy)]
+#[derive(Clone, Copy, Debug, PartialEq, Eq)]
 pub enum Refusal {
     // The first line is refused.
     Equation(LineFault),

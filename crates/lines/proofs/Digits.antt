@@ -1,10 +1,10 @@
 -- Digits that are written are read, and digits that are read are written.
-use Rattle.std.proofs.Common.{◌≡◌, ℕ, zero, suc, ◌+◌, ◌*◌, ◌/◌, ◌%◌, ◌^◌, ◌<◌, ◌≤◌, List, [], ◌∷◌, ◌++◌, map, length, get_or, take, ℤ, sym, refl, ap, ◌∙◌, lt_of_lt_of_le, mod-lt, div-lt_iff_lt-mul, pow-suc, div-add-mod', add-one, arith, w32, SFits, to_z, of_z}
+use Rattle.std.proofs.Common.{◌≡◌, ℕ, zero, suc, ◌+◌, ◌*◌, ◌/◌, ◌%◌, ◌^◌, ◌<◌, ◌≤◌, List, [], ◌∷◌, ◌++◌, map, length, get_or, take, ℤ, sym, refl, ap, ◌∙◌, lt_of_lt_of_le, mod-lt, div-lt_iff_lt-mul, pow-suc, div-add-mod', arith, w32, SFits, to_z, of_z}
 use native.Mathlib.Nat.{pow-le-pow_right}
 use mir.Facts.{Fits-of_z}
 use Rattle.std.proofs.lemmas.Int.Digits.{number_push, number_lt}
 use Rattle.std.proofs.ByRecursion.{All-append, All-map, All-take, All-get_or}
-use Rattle.std.proofs.lemmas.List.{map_more, length-map, length-take, length-take-le, length_push, take_more, take_all}
+use Rattle.std.proofs.lemmas.List.{map_more, length-map, length-take, length-take-le, take_more, take_all}
 use Rattle.std.proofs.lemmas.Int.{to_z-of_z, of_z-to_z}
 use Rattle.std.proofs.lemmas.Bool.Decides.{nat_tests}
 use Rattle.std.specs.Int.Digits.{number_from_digits, AllBelowBase}
@@ -27,10 +27,6 @@ codes_values (c ∷ cs) u = let a = code_value c u.0 in let b = codes_values cs 
 digits_under : (k n : ℕ) → AllBelowBase 16 (digits k n)
 digits_under zero n = tt
 digits_under (suc k) n = All-append (λ d. d < 16) (digits k (n / 16)) (n % 16 ∷ []) (digits_under k (n / 16)) (mod-lt n (omega arith), tt)
-
-length_digits : (k n : ℕ) → length (digits k n) ≡ k
-length_digits zero n = refl
-length_digits (suc k) n = length_push (digits k (n / 16)) (n % 16) ∙ ap (λ (m : ℕ). m + 1) (length_digits k (n / 16)) ∙ add-one k
 
 number_digits : (k n : ℕ) → n < 16 ^ k → number_from_digits 16 (digits k n) ≡ n
 number_digits zero n h = omega arith

@@ -32,11 +32,11 @@ over_inside {X} d at x p q q' r e lq le =
     ∙ last
 
 -- n zeroes
-abbrev Z : ℕ → List ℕ
-Z n = replicate n 0
+abbrev zeros : ℕ → List ℕ
+zeros n = replicate n 0
 
-abbrev OO : List ℕ
-OO = 0 ∷ 0 ∷ []
+abbrev two_zeros : List ℕ
+two_zeros = 0 ∷ 0 ∷ []
 
 pub length_joined : (us : List ℤ) → length (flat_map word_text us) ≡ 8 * length us
 length_joined [] = refl
@@ -45,23 +45,23 @@ length_joined (u ∷ us) = let e = length-append (word_text u) (flat_map word_te
 joined_push : (us : List ℤ) (w : ℤ) → flat_map word_text us ++ word_text w ≡ flat_map word_text (us ++ w ∷ [])
 joined_push us w = flat_map_more word_text [] us w
 
-zeroed_over : (d : List ℕ) (at k : ℕ) → zeroed d at k ≡ over d at (Z k)
-zeroed_over d at k = ap (λ (i : ℕ). take at d ++ (Z k ++ drop (at + i) d)) (sym (length-replicate k 0))
+zeroed_over : (d : List ℕ) (at k : ℕ) → zeroed d at k ≡ over d at (zeros k)
+zeroed_over d at k = ap (λ (i : ℕ). take at d ++ (zeros k ++ drop (at + i) d)) (sym (length-replicate k 0))
 
 module _ (m : Model) (frame n : ℕ) (fits : m.end + (5 + 8 * n) ≤ length m.bytes) where
   -- the page with the numbers us put and room for k more
   filled : List ℤ → ℕ → Model
-  filled us k = record { bytes = over m.bytes m.end (text 2 frame ++ (OO ++ (flat_map word_text us ++ Z (8 * k + 1)))); end = m.end; begun = true; room = n; put = length us }
+  filled us k = record { bytes = over m.bytes m.end (text 2 frame ++ (two_zeros ++ (flat_map word_text us ++ zeros (8 * k + 1)))); end = m.end; begun = true; room = n; put = length us }
 
   began_filled : began m frame n ≡ filled [] n
   unfolding filled
   began_filled =
       let d = m.bytes in
       let at = m.end in
-      let z : Z (5 + 8 * n) ≡ Z 2 ++ Z (3 + 8 * n) = ap Z (omega arith) ∙ sym (replicate-append-replicate 2 (3 + 8 * n) 0) in
-      let z2 : Z (3 + 8 * n) ≡ OO ++ Z (8 * n + 1) = ap Z (omega arith) ∙ sym (replicate-append-replicate 2 (8 * n + 1) 0) in
+      let z : zeros (5 + 8 * n) ≡ zeros 2 ++ zeros (3 + 8 * n) = ap zeros (omega arith) ∙ sym (replicate-append-replicate 2 (3 + 8 * n) 0) in
+      let z2 : zeros (3 + 8 * n) ≡ two_zeros ++ zeros (8 * n + 1) = ap zeros (omega arith) ∙ sym (replicate-append-replicate 2 (8 * n + 1) 0) in
       let a = zeroed_over d at (5 + 8 * n) in
-      let b : over (over d at (Z 2 ++ Z (3 + 8 * n))) at (text 2 frame) ≡ over d at (text 2 frame ++ Z (3 + 8 * n)) = over_inside d at at [] (Z 2) (text 2 frame) (Z (3 + 8 * n)) (sym (add-zero at)) refl (omega arith) in
+      let b : over (over d at (zeros 2 ++ zeros (3 + 8 * n))) at (text 2 frame) ≡ over d at (text 2 frame ++ zeros (3 + 8 * n)) = over_inside d at at [] (zeros 2) (text 2 frame) (zeros (3 + 8 * n)) (sym (add-zero at)) refl (omega arith) in
       ap (λ (bs : List ℕ). record { bytes = bs; end = at; begun = true; room = n; put = 0 })
       (ap (λ (x : List ℕ). over x at (text 2 frame)) (a ∙ ap (over d at) z) ∙ b ∙ ap (λ (x : List ℕ). over d at (text 2 frame ++ x)) z2)
 
@@ -71,17 +71,17 @@ module _ (m : Model) (frame n : ℕ) (fits : m.end + (5 + 8 * n) ≤ length m.by
       let d = m.bytes in
       let at = m.end in
       let J = flat_map word_text us in
-      let P = text 2 frame ++ (OO ++ J) in
-      let z : Z (8 * suc k + 1) ≡ Z 8 ++ Z (8 * k + 1) = ap Z (omega arith) ∙ sym (replicate-append-replicate 8 (8 * k + 1) 0) in
-      let s : text 2 frame ++ (OO ++ (J ++ (Z 8 ++ Z (8 * k + 1)))) ≡ P ++ (Z 8 ++ Z (8 * k + 1)) = simp append_assoc in
+      let P = text 2 frame ++ (two_zeros ++ J) in
+      let z : zeros (8 * suc k + 1) ≡ zeros 8 ++ zeros (8 * k + 1) = ap zeros (omega arith) ∙ sym (replicate-append-replicate 8 (8 * k + 1) 0) in
+      let s : text 2 frame ++ (two_zeros ++ (J ++ (zeros 8 ++ zeros (8 * k + 1)))) ≡ P ++ (zeros 8 ++ zeros (8 * k + 1)) = simp append_assoc in
       let x : at + (4 + 8 * length us) ≡ at + length P = let e = length_joined us in omega arith in
-      let i = over_inside d at (at + (4 + 8 * length us)) P (Z 8) (word_text w) (Z (8 * k + 1)) x refl (omega arith) in
-      let t : P ++ (word_text w ++ Z (8 * k + 1)) ≡ text 2 frame ++ (OO ++ ((J ++ word_text w) ++ Z (8 * k + 1))) = simp append_assoc in
-      let j : text 2 frame ++ (OO ++ ((J ++ word_text w) ++ Z (8 * k + 1))) ≡ text 2 frame ++ (OO ++ (flat_map word_text (us ++ w ∷ []) ++ Z (8 * k + 1))) = ap (λ (y : List ℕ). text 2 frame ++ (OO ++ (y ++ Z (8 * k + 1)))) (joined_push us w) in
+      let i = over_inside d at (at + (4 + 8 * length us)) P (zeros 8) (word_text w) (zeros (8 * k + 1)) x refl (omega arith) in
+      let t : P ++ (word_text w ++ zeros (8 * k + 1)) ≡ text 2 frame ++ (two_zeros ++ ((J ++ word_text w) ++ zeros (8 * k + 1))) = simp append_assoc in
+      let j : text 2 frame ++ (two_zeros ++ ((J ++ word_text w) ++ zeros (8 * k + 1))) ≡ text 2 frame ++ (two_zeros ++ (flat_map word_text (us ++ w ∷ []) ++ zeros (8 * k + 1))) = ap (λ (y : List ℕ). text 2 frame ++ (two_zeros ++ (y ++ zeros (8 * k + 1)))) (joined_push us w) in
       let c : length us + 1 ≡ length (us ++ w ∷ []) = sym (length_push us w) in
       ap (λ (bs : List ℕ). record { bytes = bs; end = at; begun = true; room = n; put = length us + 1 })
-      (ap (λ (y : List ℕ). over (over d at y) (at + (4 + 8 * length us)) (word_text w)) (ap (λ (y : List ℕ). text 2 frame ++ (OO ++ (J ++ y))) z ∙ s) ∙ i ∙ ap (over d at) (t ∙ j))
-      ∙ ap (λ (q : ℕ). record { bytes = over d at (text 2 frame ++ (OO ++ (flat_map word_text (us ++ w ∷ []) ++ Z (8 * k + 1)))); end = at; begun = true; room = n; put = q }) c
+      (ap (λ (y : List ℕ). over (over d at y) (at + (4 + 8 * length us)) (word_text w)) (ap (λ (y : List ℕ). text 2 frame ++ (two_zeros ++ (J ++ y))) z ∙ s) ∙ i ∙ ap (over d at) (t ∙ j))
+      ∙ ap (λ (q : ℕ). record { bytes = over d at (text 2 frame ++ (two_zeros ++ (flat_map word_text (us ++ w ∷ []) ++ zeros (8 * k + 1)))); end = at; begun = true; room = n; put = q }) c
 
   -- the numbers ws put behind us, where j have room and k of them are left
   puts_filled : (us ws : List ℤ) (j k : ℕ) → j ≡ length ws + k → fold with_word (filled us j) ws ≡ filled (us ++ ws) k
@@ -93,20 +93,20 @@ module _ (m : Model) (frame n : ℕ) (fits : m.end + (5 + 8 * n) ≤ length m.by
       ∙ ap (λ (x : List ℤ). filled x k) (append_assoc us (w ∷ []) ws)
 
   -- a line closed with room for k numbers more
-  closed_filled : (ws : List ℤ) (k : ℕ) → closed (filled ws k) ≡ between (over m.bytes m.end (line_text frame ws ++ 10 ∷ Z (8 * k))) (m.end + (5 + 8 * length ws))
+  closed_filled : (ws : List ℤ) (k : ℕ) → closed (filled ws k) ≡ between (over m.bytes m.end (line_text frame ws ++ 10 ∷ zeros (8 * k))) (m.end + (5 + 8 * length ws))
   unfolding filled
   closed_filled ws k =
       let d = m.bytes in
       let at = m.end in
       let J = flat_map word_text ws in
-      let i = over_inside d at (at + 2) (text 2 frame) OO (text 2 (length ws)) (J ++ Z (8 * k + 1)) refl refl (omega arith) in
+      let i = over_inside d at (at + 2) (text 2 frame) two_zeros (text 2 (length ws)) (J ++ zeros (8 * k + 1)) refl refl (omega arith) in
       let P = text 2 frame ++ (text 2 (length ws) ++ J) in
-      let z : Z (8 * k + 1) ≡ Z 1 ++ Z (8 * k) = ap Z (omega arith) ∙ sym (replicate-append-replicate 1 (8 * k) 0) in
-      let s : text 2 frame ++ (text 2 (length ws) ++ (J ++ (Z 1 ++ Z (8 * k)))) ≡ P ++ (Z 1 ++ Z (8 * k)) = simp append_assoc in
+      let z : zeros (8 * k + 1) ≡ zeros 1 ++ zeros (8 * k) = ap zeros (omega arith) ∙ sym (replicate-append-replicate 1 (8 * k) 0) in
+      let s : text 2 frame ++ (text 2 (length ws) ++ (J ++ (zeros 1 ++ zeros (8 * k)))) ≡ P ++ (zeros 1 ++ zeros (8 * k)) = simp append_assoc in
       let e = length_joined ws in
       let x : at + (4 + 8 * length ws) ≡ at + length P = omega arith in
-      let l = over_inside d at (at + (4 + 8 * length ws)) P (Z 1) (10 ∷ []) (Z (8 * k)) x refl (omega arith) in
-      let t : P ++ ((10 ∷ []) ++ Z (8 * k)) ≡ line_text frame ws ++ 10 ∷ Z (8 * k) = refl in
+      let l = over_inside d at (at + (4 + 8 * length ws)) P (zeros 1) (10 ∷ []) (zeros (8 * k)) x refl (omega arith) in
+      let t : P ++ ((10 ∷ []) ++ zeros (8 * k)) ≡ line_text frame ws ++ 10 ∷ zeros (8 * k) = refl in
       let b = ap (λ (y : List ℕ). over y (at + (4 + 8 * length ws)) (10 ∷ [])) (i ∙ ap (over d at) (ap (λ (y : List ℕ). text 2 frame ++ (text 2 (length ws) ++ (J ++ y))) z ∙ s)) ∙ l ∙ ap (over d at) t in
       ap (λ (y : List ℕ). between y (at + (5 + 8 * length ws))) b
 
@@ -116,11 +116,11 @@ module _ (m : Model) (frame n : ℕ) (fits : m.end + (5 + 8 * n) ≤ length m.by
   given_filled us k e =
       let d = m.bytes in
       let at = m.end in
-      let S = text 2 frame ++ (OO ++ (flat_map word_text us ++ Z (8 * k + 1))) in
-      let O = Z (5 + 8 * n) in
+      let S = text 2 frame ++ (two_zeros ++ (flat_map word_text us ++ zeros (8 * k + 1))) in
+      let O = zeros (5 + 8 * n) in
       let j = length_joined us in
-      let p = length-append (flat_map word_text us) (Z (8 * k + 1)) in
-      let q : length (Z (8 * k + 1)) ≡ 8 * k + 1 = length-replicate (8 * k + 1) 0 in
+      let p = length-append (flat_map word_text us) (zeros (8 * k + 1)) in
+      let q : length (zeros (8 * k + 1)) ≡ 8 * k + 1 = length-replicate (8 * k + 1) 0 in
       let r : length O ≡ 5 + 8 * n = length-replicate (5 + 8 * n) 0 in
       let l : length S ≡ length O = omega arith in
       let i = over_inside d at at [] S O [] (sym (add-zero at)) l (omega arith) in

@@ -72,8 +72,8 @@ abbrev pub given_up : Model → Model
 given_up m = between (zeroed m.bytes m.end (5 + 8 * m.room)) m.end
 
 -- why len bytes of whole lines cannot be put at the end of a page
-abbrev pub text_refusal_lem : Model → ℕ → Option PageFault
-text_refusal_lem m len = cond m.begun (Some LineBegun) (cond (nat_lt (length m.bytes) (m.end + len)) (Some NoRoom) None)
+abbrev pub text_refusal : Model → ℕ → Option PageFault
+text_refusal m len = cond m.begun (Some LineBegun) (cond (nat_lt (length m.bytes) (m.end + len)) (Some NoRoom) None)
 
 -- no line is begun, and the page has room for len bytes
 pub record HasRoom (m : Model) (len : ℕ) : Type 0 where

@@ -3,7 +3,7 @@ use Rattle.std.specs.Prelude.{◌≡◌, ℕ, ◌+◌, ◌-◌, ◌*◌, ◌≤�
 use Rattle.faults.specs.declared.PageFault.{PageFault}
 use Rattle.faults.specs.declared.PageFault.TheVariants.{NoRoom, LineBegun, NoLine, TooMany}
 use Rattle.lines.specs.Line.{line_text}
-use Rattle.lines.specs.Page.{Model, empty_page, begin_refusal, began, put_refusal, with_word, end_refusal, between, over, zeroed, closed, given_up, text_refusal_lem, HasRoom}
+use Rattle.lines.specs.Page.{Model, empty_page, begin_refusal, began, put_refusal, with_word, end_refusal, between, over, zeroed, closed, given_up, text_refusal, HasRoom}
 
 -- a line that was begun with room for some numbers, and to which the numbers ws were put
 abbrev pub filled_with : Model → ℕ → ℕ → List ℤ → Model
@@ -22,7 +22,7 @@ GivenUp = (m : Model) (frame room : ℕ) (ws : List ℤ) → begin_refusal m roo
 
 -- a page has room for a text exactly where the text is not refused
 abbrev pub RoomExact : Type 0
-RoomExact = (m : Model) (len : ℕ) → HasRoom m len ↔ (text_refusal_lem m len ≡ None)
+RoomExact = (m : Model) (len : ℕ) → HasRoom m len ↔ (text_refusal m len ≡ None)
 
 -- an empty page of so many bytes, and a page of 13 bytes with a line begun for one number
 abbrev pub page_of : ℕ → Model
@@ -51,9 +51,9 @@ refusals =
     ∷ (record { came = put_refusal (closed (with_word begun_page (pos 1))); fault = Some NoLine }
     ∷ (record { came = end_refusal (page_of 13); fault = Some NoLine }
     ∷ (record { came = end_refusal begun_page; fault = None }
-    ∷ (record { came = text_refusal_lem (page_of 13) 13; fault = None }
-    ∷ (record { came = text_refusal_lem (page_of 12) 13; fault = Some NoRoom }
-    ∷ (record { came = text_refusal_lem begun_page 14; fault = Some LineBegun }
+    ∷ (record { came = text_refusal (page_of 13) 13; fault = None }
+    ∷ (record { came = text_refusal (page_of 12) 13; fault = Some NoRoom }
+    ∷ (record { came = text_refusal begun_page 14; fault = Some LineBegun }
     ∷ [])))))))))))))
 
 abbrev pub Refusals : Type 0

@@ -36,7 +36,7 @@ impl Pairs {
     // The input is at its end: an equation that has no plan is reported.
     fn finish<W: Write>(&self, out: &mut W) -> io::Result<()> {
         match &self.equation {
-            Some(equation) => report::torn(out, self.lines, equation.line()),
+            Some(equation) => report::without_plan(out, self.lines, equation.line()),
             None => Ok(()),
         }
     }

@@ -23,7 +23,7 @@ pub fn pair<W: Write>(out: &mut W, line: u64, equation: &[u8], plan: &[u8]) -> i
 }
 
 // An equation that has no plan behind it.
-pub fn torn<W: Write>(out: &mut W, line: u64, equation: &[u8]) -> io::Result<()> {
+pub fn without_plan<W: Write>(out: &mut W, line: u64, equation: &[u8]) -> io::Result<()> {
     writeln!(out, "line {line}")?;
     equation_line(out, equation)?;
     writeln!(

@@ -1,15 +1,9 @@
--- The largest place by a function: one step of its loop, and what it says.
-use Rattle.std.proofs.Common.{◌≡◌, ℕ, zero, suc, ◌+◌, ◌<◌, ◌≤◌, true, false, eqb, ltb, ◌≢◌, IfSome, Some, None, Option, sym, ap, ◌∙◌, subst, ⊎_elim, add-one, arith}
-use Rattle.std.proofs.lemmas.Bool.{eq-eqb, ne_eqb, eqb-true, eqb-false, ltb-true, ltb-false, cond_both, cases_lt}
+-- The largest place by a function, and what it says.
+use Rattle.std.proofs.Common.{◌≡◌, ℕ, zero, suc, ◌<◌, ◌≤◌, eqb, ltb, ◌≢◌, IfSome, Some, None, Option, subst, ⊎_elim, arith}
+use Rattle.std.proofs.lemmas.Bool.{eqb-true, eqb-false, ltb-true, ltb-false, cond_both, cases_lt}
 use Rattle.plans.specs.Posting.{larger, largest_of}
 
 module _ (f : ℕ → ℕ) (s : ℕ) where
-  pub step_skip : (n : ℕ) → n ≡ s → largest_of f s (n + 1) ≡ largest_of f s n
-  step_skip n e = let t = eq-eqb n s e in rw (add-one, t)
-
-  pub step_other : (n : ℕ) → n ≢ s → largest_of f s (n + 1) ≡ larger f n (largest_of f s n)
-  step_other n e = let t = ne_eqb n s e in rw (add-one, t)
-
   -- what the largest so far is, as a fact
   abbrev pub Best : ℕ → Option ℕ → Type 0
   Best n (Some b) = (b < n) × (b ≢ s) × ((j : ℕ) → j < n → j ≢ s → f j ≤ f b) × ((j : ℕ) → j < b → j ≢ s → f j < f b)
@@ -38,16 +32,6 @@ module _ (f : ℕ → ℕ) (s : ℕ) where
 
   pub best_some : (n b : ℕ) → largest_of f s n ≡ Some b → Best n (Some b)
   best_some n b e = subst (λ x. Best n x) e (best n)
-
-  -- the step of a loop that keeps the best so far
-  pub step_first : (n : ℕ) (o : Option ℕ) → n ≢ s → o ≡ largest_of f s n → o ≡ None → Some n ≡ largest_of f s (n + 1)
-  step_first n o d e k = sym (step_other n d ∙ ap (larger f n) (sym e ∙ k))
-
-  pub step_better : (n b : ℕ) (o : Option ℕ) → n ≢ s → o ≡ largest_of f s n → o ≡ Some b → ltb (f b) (f n) ≡ true → Some n ≡ largest_of f s (n + 1)
-  step_better n b o d e k t = sym (step_other n d ∙ ap (larger f n) (sym e ∙ k) ∙ rw t)
-
-  pub step_keep : (n b : ℕ) (o : Option ℕ) → n ≢ s → o ≡ largest_of f s n → o ≡ Some b → ltb (f b) (f n) ≡ false → Some b ≡ largest_of f s (n + 1)
-  step_keep n b o d e k t = sym (step_other n d ∙ ap (larger f n) (sym e ∙ k) ∙ rw t)
 
   best_under : (n : ℕ) (o : Option ℕ) → Best n o → IfSome o (λ b. b < n)
   best_under n (Some b) w = w.0

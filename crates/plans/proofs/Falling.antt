@@ -61,13 +61,13 @@ module _ {N C : Type 0} (a : Arithmetic N C) (laws : Laws a) where
   turned_again (Some w) v e = cc
   turned_again None v e = absurd cc
 
-  not_stop : (b : Bool) (l : ℕ) (x : Turn N) (v : Work N) → cond b (stop l) x ≡ again v → x ≡ again v
-  not_stop true l x v e = absurd cc
-  not_stop false l x v e = e
+  again_past : (b : Bool) (l : ℕ) (x : Turn N) (v : Work N) → cond b (stop l) x ≡ again v → x ≡ again v
+  again_past true l x v e = absurd cc
+  again_past false l x v e = e
 
   by_again : (w v : Work N) (l : ℕ) → pivot_of a w.columns ≡ Some l → (o : Option ℕ) → runner_up_of a w.columns l ≡ o → turn_by a w l o ≡ again v → Went w v
   by_again w v l p None q e = absurd cc
-  by_again w v l p (Some r) q e = rounded w v l r p q (turned_again (round a w l r) v (not_stop (eqb (size_at a w.columns r) 0) l (turned a (round a w l r)) v e))
+  by_again w v l p (Some r) q e = rounded w v l r p q (turned_again (round a w l r) v (again_past (eqb (size_at a w.columns r) 0) l (turned a (round a w l r)) v e))
 
   at_again : (w v : Work N) (o : Option ℕ) → pivot_of a w.columns ≡ o → turn_at a w o ≡ again v → Went w v
   at_again w v None p e = absurd cc

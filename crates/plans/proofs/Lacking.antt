@@ -127,9 +127,9 @@ module _ {N C : Type 0} (a : Arithmetic N C) (laws : Laws a) where
   turned_fail (Some v) e = absurd cc
   turned_fail None e = refl
 
-  not_stop : (b : Bool) (l : ℕ) (t : Turn N) → cond b (stop l) t ≡ fail → (b ≡ false) × (t ≡ fail)
-  not_stop true l t e = absurd cc
-  not_stop false l t e = (refl, e)
+  fails_past : (b : Bool) (l : ℕ) (t : Turn N) → cond b (stop l) t ≡ fail → (b ≡ false) × (t ≡ fail)
+  fails_past true l t e = absurd cc
+  fails_past false l t e = (refl, e)
 
   -- a turn that fails is a round that does
   fail_lacks : (w : Work N) → ¬ (total_size a w.columns ≡ 0) → turn a w ≡ fail → LacksRound a w
@@ -152,7 +152,7 @@ module _ {N C : Type 0} (a : Arithmetic N C) (laws : Laws a) where
       by : (o : Option ℕ) → runner_up_of a cs l ≡ o → turn_by a w l o ≡ fail → LacksRound a w
       by None q t = absurd cc
       by (Some r) q t =
-          let n = not_stop (eqb (size_at a cs r) 0) l (turned a (round a w l r)) t in
+          let n = fails_past (eqb (size_at a cs r) 0) l (turned a (round a w l r)) t in
           let k = eqb-false (size_at a cs r) 0 n.0 in
           record { work = w; l = l; r = r; comes = here w; pivot = p.1; runner_up = q; goes_on = k; lacks = both r k (turned_fail (round a w l r) n.1) }
 

@@ -14,6 +14,11 @@ use Rattle.plans.proofs.SameLists.{lists_refl, lists_eq, lists_sym, lists_trans,
 use Rattle.plans.proofs.Vectors.{made_same, first, rest, made_split, top_made_none}
 use Rattle.plans.proofs.Stored.{meant}
 
+-- as many moves as unknowns
+pub units_many : {N C : Type 0} (a : Arithmetic N C) (n : ℕ) → length (unit_moves a n) ≡ n
+units_many a zero = refl
+units_many a (suc n) = ap suc (length-map (unit_moves a n) (λ v. a.zero ∷ v) ∙ units_many a n)
+
 module _ {N C : Type 0} (a : Arithmetic N C) (laws : Laws a) where
   zeros_plus : (n : ℕ) (y : ℤ) → SameLists a.modulus (plus (meant a (replicate n a.zero)) y (meant a (replicate n a.zero))) (meant a (replicate n a.zero))
   zeros_plus zero y = ended
@@ -44,10 +49,6 @@ module _ {N C : Type 0} (a : Arithmetic N C) (laws : Laws a) where
       (lists_trans (lists_eq (ap (λ ws. made (plus zeros y zeros) ws ys) (rests (unit_moves a n))))
       (lists_trans (made_same (columns_refl (map (meant a) (unit_moves a n))) (lists_refl ys) (zeros_plus n y)) (units_made n ys (suc_inj h)))))
 
-  units_many : (n : ℕ) → length (unit_moves a n) ≡ n
-  units_many zero = refl
-  units_many (suc n) = ap suc (length-map (unit_moves a n) (λ v. a.zero ∷ v) ∙ units_many n)
-
   units_sized : (n : ℕ) → Sized n (unit_moves a n)
   units_sized zero = tt
   units_sized (suc n) =
@@ -65,4 +66,4 @@ module _ {N C : Type 0} (a : Arithmetic N C) (laws : Laws a) where
   }
     where
       many : length (map (meant a) (unit_moves a n)) ≡ n
-      many = length-map (unit_moves a n) (meant a) ∙ units_many n
+      many = length-map (unit_moves a n) (meant a) ∙ units_many a n

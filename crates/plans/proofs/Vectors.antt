@@ -21,6 +21,11 @@ plus_length [] y v = refl
 plus_length (a ∷ u) y [] = refl
 plus_length (a ∷ u) y (b ∷ v) = ap suc (plus_length u y v)
 
+pub made_length : (u : List ℤ) (vs : List (List ℤ)) (y : List ℤ) → length (made u vs y) ≡ length u
+made_length u [] y = refl
+made_length u (v ∷ vs) [] = refl
+made_length u (v ∷ vs) (y ∷ ys) = made_length (plus u y v) vs ys ∙ plus_length u y v
+
 plus_swap : (u : List ℤ) (y : ℤ) (v : List ℤ) (z : ℤ) (w : List ℤ) → plus (plus u y v) z w ≡ plus (plus u z w) y v
 plus_swap [] y v z w = refl
 plus_swap (a ∷ u) y [] z [] = refl

@@ -9,20 +9,20 @@ use Rattle.kinds.specs.Equation.{Equation, dot, Meets}
 use Rattle.kinds.specs.Ring.{ring}
 use Rattle.kinds.specs.Sames.{same_eq, same_refl, same_sym, same_trans, same_add}
 use Rattle.plans.specs.Posting.{without}
-use Rattle.plans.specs.Solution.{SameLists, also, MeetsAll, Plan, plus, made, General, is_taken, is_implied, is_contradicted, Verdict, Sized}
+use Rattle.plans.specs.Solution.{SameLists, also, MeetsAll, Plan, made, General, is_taken, is_implied, is_contradicted, Verdict, Sized}
 use Rattle.plans.proofs.SameLists.{lists_refl, lists_eq, lists_sym, lists_trans, lists_head, SameColumns, columns_refl, columns_length}
-use Rattle.plans.proofs.Vectors.{plus_length, shift, shift_length, put_in, put_in_length, without_length, made_without, put_in_without, put_in_once, made_same, dot_same, first, rest, lists_rest, top_made, made_split, under, made_under, top_made_none, top_made_one, map_without}
+use Rattle.plans.proofs.Vectors.{made_length, shift, shift_length, put_in, put_in_length, without_length, made_without, put_in_without, put_in_once, made_same, dot_same, first, rest, lists_rest, top_made, made_split, under, made_under, top_made_none, top_made_one, map_without}
 use Rattle.plans.proofs.Changes.{Change}
 
 -- a plan under what the equation comes to at it, its right side taken off
-abbrev over : Equation → List ℤ → List ℤ
-over e p = (dot e.coefficients p +ℤ neg_ℤ e.right) ∷ p
+abbrev below_value : Equation → List ℤ → List ℤ
+below_value e p = (dot e.coefficients p +ℤ neg_ℤ e.right) ∷ p
 
 -- what the columns u and vs tell of the plans that meet es: each such plan, under what e comes to at it, is made by a
 -- choice, each choice makes one, and no two choices make the same plan
 pub record Tells (m n : ℕ) (es : List Equation) (e : Equation) (u : List ℤ) (vs : List (List ℤ)) : Type 0 where
-  pub every : (p : List ℤ) → length p ≡ n → MeetsAll m es p → (y : List ℤ) × (length y ≡ length vs) × SameLists m (over e p) (made u vs y)
-  pub each : (y : List ℤ) → length y ≡ length vs → (p : List ℤ) × (length p ≡ n) × MeetsAll m es p × SameLists m (over e p) (made u vs y)
+  pub every : (p : List ℤ) → length p ≡ n → MeetsAll m es p → (y : List ℤ) × (length y ≡ length vs) × SameLists m (below_value e p) (made u vs y)
+  pub each : (y : List ℤ) → length y ≡ length vs → (p : List ℤ) × (length p ≡ n) × MeetsAll m es p × SameLists m (below_value e p) (made u vs y)
   pub once : (y z : List ℤ) → length y ≡ length vs → length z ≡ length vs → SameLists m (rest (made u vs y)) (rest (made u vs z)) → SameLists m y z
 
 -- a change of columns keeps what they tell
@@ -36,11 +36,6 @@ tells_change {m} {n} {es} {e} {u} {u'} {vs} {vs'} t c = record {
 }
 
 -- what the columns tell at the start
-made_length : (u : List ℤ) (vs : List (List ℤ)) (y : List ℤ) → length (made u vs y) ≡ length u
-made_length u [] y = refl
-made_length u (v ∷ vs) [] = refl
-made_length u (v ∷ vs) (y ∷ ys) = made_length (plus u y v) vs ys ∙ plus_length u y v
-
 pub tells_start : {m n : ℕ} {es : List Equation} {e : Equation} (u : List ℤ) (vs : List (List ℤ)) {U : List ℤ} {VS : List (List ℤ)} → General m n es u vs → length u ≡ n → Sized n vs →
     SameLists m U ((dot e.coefficients u +ℤ neg_ℤ e.right) ∷ u) → SameColumns m VS (map (under e.coefficients) vs) → Tells m n es e U VS
 tells_start {m} {n} {es} {e} u vs {U} {VS} g k s hu hv = record {
@@ -53,7 +48,7 @@ tells_start {m} {n} {es} {e} u vs {U} {VS} g k s hu hv = record {
     many : length VS ≡ length vs
     many = columns_length hv ∙ length-map vs (under e.coefficients)
 
-    is : (y : List ℤ) → SameLists m (made U VS y) (over e (made u vs y))
+    is : (y : List ℤ) → SameLists m (made U VS y) (below_value e (made u vs y))
     is y = lists_trans (made_same hv (lists_refl y) hu) (lists_eq (made_under e.coefficients (neg_ℤ e.right) u vs y (subst (λ i. Sized i vs) (sym k) s)))
 
 -- meeting the equation is a value of 0
@@ -126,7 +121,7 @@ abbrev pub top_at : List (List ℤ) → ℕ → ℤ
 top_at vs l = get_or (map first vs) l (pos 0)
 
 module _ {m n : ℕ} {es : List Equation} {e : Equation} {x : ℤ} {u : List ℤ} {vs : List (List ℤ)} (t : Tells m n es e (x ∷ u) vs) where
-  value : (p y : List ℤ) → SameLists m (over e p) (made (x ∷ u) vs y) → Same m (dot e.coefficients p +ℤ neg_ℤ e.right) (top_made x (map first vs) y)
+  value : (p y : List ℤ) → SameLists m (below_value e p) (made (x ∷ u) vs y) → Same m (dot e.coefficients p +ℤ neg_ℤ e.right) (top_made x (map first vs) y)
   value p y h = lists_head (lists_trans h (lists_eq (made_split x u vs y)))
 
   a_plan : Plan m n es
@@ -141,7 +136,7 @@ module _ {m n : ℕ} {es : List Equation} {e : Equation} {x : ℤ} {u : List ℤ
       h (same_trans (same_sym (top_made_none x (map first vs) r.0 z)) (same_trans (same_sym (value p.0 r.0 r.2)) (meets_value e p.0 k)))) a_plan
 
   module _ (l : ℕ) (i : l < length vs) (z : AllByRecursion (λ a. Same m a (pos 0)) (without (map first vs) l)) where
-    value_one : (p y : List ℤ) → length y ≡ length vs → SameLists m (over e p) (made (x ∷ u) vs y) →
+    value_one : (p y : List ℤ) → length y ≡ length vs → SameLists m (below_value e p) (made (x ∷ u) vs y) →
         Same m (dot e.coefficients p +ℤ neg_ℤ e.right) (x +ℤ get_or y l (pos 0) *ℤ top_at vs l)
     value_one p y k h = same_trans (value p y h) (top_made_one x (map first vs) y l (subst (λ j. l < j) (sym (length-map vs first)) i) (k ∙ sym (length-map vs first)) z)
 
@@ -151,7 +146,7 @@ module _ {m n : ℕ} {es : List Equation} {e : Equation} {x : ℤ} {u : List ℤ
         h (get_or r.0 l (pos 0)) (same_trans (same_sym (value_one p.0 r.0 r.1 r.2)) (meets_value e p.0 k))) a_plan
 
     module _ (h : Same m x (pos 0)) (g : ¬ Same m (top_at vs l) (pos 0)) where
-      value_top_at : (p y : List ℤ) → length y ≡ length vs → SameLists m (over e p) (made (x ∷ u) vs y) →
+      value_top_at : (p y : List ℤ) → length y ≡ length vs → SameLists m (below_value e p) (made (x ∷ u) vs y) →
           Same m (dot e.coefficients p +ℤ neg_ℤ e.right) (get_or y l (pos 0) *ℤ top_at vs l)
       value_top_at p y k a = same_trans (value_one p y k a) (same_trans (same_add h same_refl) (same_eq (simp ring)))
 
@@ -162,13 +157,13 @@ module _ {m n : ℕ} {es : List Equation} {e : Equation} {x : ℤ} {u : List ℤ
       taken_verdict = judged_taken ((r.0, r.1, r.2), value_meets e r.0 (same_trans (value_top_at r.0 (zeros (length vs)) (zeros_length (length vs)) r.3) (same_eq (ap (λ a. a *ℤ top_at vs l) (zeros_at (length vs) l) ∙ simp ring))))
           ((q.0, q.1, q.2), λ k. g (same_trans (same_sym (same_trans (value_top_at q.0 y (at_place (pos 1)) q.3) (same_eq at_y))) (meets_value e q.0 k)))
         where
-          r : (p : List ℤ) × (length p ≡ n) × MeetsAll m es p × SameLists m (over e p) (made (x ∷ u) vs (zeros (length vs)))
+          r : (p : List ℤ) × (length p ≡ n) × MeetsAll m es p × SameLists m (below_value e p) (made (x ∷ u) vs (zeros (length vs)))
           r = t.each (zeros (length vs)) (zeros_length (length vs))
 
           y : List ℤ
           y = shift l (pos 1) (zeros (length vs))
 
-          q : (p : List ℤ) × (length p ≡ n) × MeetsAll m es p × SameLists m (over e p) (made (x ∷ u) vs y)
+          q : (p : List ℤ) × (length p ≡ n) × MeetsAll m es p × SameLists m (below_value e p) (made (x ∷ u) vs y)
           q = t.each y (at_place (pos 1))
 
           at_y : get_or y l (pos 0) *ℤ top_at vs l ≡ top_at vs l

@@ -7,7 +7,7 @@ use Rattle.plans.specs.Solution.{MeetsAll, Holds}
 use Rattle.sheets.specs.Cells.{contents_in}
 use Rattle.sheets.specs.Clearing.{clear_left}
 use Rattle.sheets.specs.Law.{StandsFor, Sound, SpareZero}
-use Rattle.sheets.specs.Picking.{pick_refusal_lem, plan_in, pick_unless, pick_answer}
+use Rattle.sheets.specs.Picking.{pick_refusal, plan_in, pick_unless, pick_answer}
 use Rattle.sheets.specs.Sheet.{Model, model_of, post_left}
 use Rattle.sheets.proofs.Refusals.{pickable}
 use Rattle.sheets.specs.declared.shape.Outline.{Outline}
@@ -73,7 +73,7 @@ module _ {N C : Type 0} (a : Arithmetic N C) where
       let done = done_plainly (pick_answer a s.sheet choice s.plan) e in
       let right = law.meets done es (stands_for k) in
       record {
-        choice_length = (pickable a s.sheet choice (length s.plan) (not_refused (pick_refusal_lem a s.sheet choice (length s.plan)) (plan_in a s.sheet choice) done)).count;
+        choice_length = (pickable a s.sheet choice (length s.plan) (not_refused (pick_refusal a s.sheet choice (length s.plan)) (plan_in a s.sheet choice) done)).count;
         plan_length = right.0 ∙ k.unknowns;
         meets = right.1;
         is_made = law.is_made done;

@@ -1,19 +1,20 @@
 -- A posting that keeps to the sheet's law is rightly answered, and it and a clearing leave a sheet that stands for what
 -- is then in force.
-use Rattle.std.proofs.Common.{◌≡◌, ℕ, ◌+◌, ◌≤◌, Bool, true, false, cond, eqb, ltb, ◌↔◌, List, length, ℤ, Some, None, Ok, Err, Option, Result, sym, refl, ap, ◌∙◌, subst₂, arith}
+use Rattle.std.proofs.Common.{◌≡◌, ℕ, ◌+◌, ◌≤◌, Bool, true, false, cond, eqb, ltb, ◌↔◌, List, length, ℤ, Some, None, Ok, Err, Option, Result, refl, ap, subst₂, arith}
 use Rattle.std.proofs.lemmas.Bool.{eqb-true, eqb-false, ltb-true}
 use Rattle.faults.specs.declared.SheetFault.{SheetFault}
 use Rattle.faults.specs.declared.SheetFault.TheVariants.{NoSheet, Count}
 use Rattle.kinds.specs.Kind.{Arithmetic}
-use Rattle.kinds.specs.Equation.{Equation}
+use Rattle.kinds.specs.Equation.{Equation, equation_of}
 use Rattle.lines.specs.Hex.{find}
 use Rattle.plans.specs.Posting.{Outcome, taken, implied, contradicted, overflow}
 use Rattle.plans.specs.Solution.{Judgement, is_taken, is_implied, is_contradicted, Verdict as Judged, Holds}
 use Rattle.sheets.specs.Cells.{needed, contents_in}
 use Rattle.sheets.specs.Clearing.{clear_answer, clear_left}
-use Rattle.sheets.specs.Law.{equation_of, judgement_of, in_force_after, in_force_cleared, StandsFor, Sound}
+use Rattle.sheets.specs.Law.{judgement_of, in_force_after, in_force_cleared, StandsFor, Sound}
 use Rattle.sheets.specs.Sheet.{Model, stands, word_fault, outcome_of, answer_unless, post_answer, post_left}
 use Rattle.sheets.specs.Words.{is_refused}
+use Rattle.sheets.proofs.Refusals.{standing}
 use Rattle.sheets.specs.declared.posting.Verdict.{Verdict}
 use Rattle.sheets.specs.declared.posting.Verdict.TheVariants.{Taken, Implied as IsImplied}
 use Rattle.runs.specs.Calls.{posting, clearing, verdict_answer, plain_answer}
@@ -59,9 +60,6 @@ module _ {N C : Type 0} (a : Arithmetic N C) (m : Model C) where
           absurd (omega arith)
       by false false p q e = absurd (true_not_false e)
 
-  stands_some : stands m ≡ true → ¬ (m.unknowns ≡ 0)
-  stands_some e z = true_not_false (sym e ∙ none_stands z)
-
   some_stands : Sound a m → ¬ (m.unknowns ≡ 0) → stands m ≡ true
   some_stands sound some = by (stands m) refl
     where
@@ -97,13 +95,13 @@ module _ {N C : Type 0} (a : Arithmetic N C) (m : Model C) where
           let R : (fault : SheetFault) → (verdict_answer r ≡ Err fault) ↔ (r ≡ Err fault) = refused_iff r in
           record {
             no_unknowns = (λ e. stands_not sound (exact.no_sheet.0 ((R _).0 e)), λ z. (R _).1 (exact.no_sheet.1 (none_stands z)));
-            count = (λ e. let k = exact.count.0 ((R _).0 e) in (stands_some k.0, k.1), λ k. (R _).1 (exact.count.1 (some_stands sound k.0, k.1)));
+            count = (λ e. let k = exact.count.0 ((R _).0 e) in ((standing m k.0).some, k.1), λ k. (R _).1 (exact.count.1 (some_stands sound k.0, k.1)));
             word = λ i. (
-              λ e. let k = (exact.not_admitted i).0 ((R _).0 e) in (stands_some k.0, k.1, k.2),
+              λ e. let k = (exact.not_admitted i).0 ((R _).0 e) in ((standing m k.0).some, k.1, k.2),
               λ k. (R _).1 ((exact.not_admitted i).1 (some_stands sound k.0, k.1, k.2)),
             );
             overflows = (
-              λ e. let k = exact.cannot_store.0 ((R _).0 e) in (stands_some k.0, k.1, k.2, k.3),
+              λ e. let k = exact.cannot_store.0 ((R _).0 e) in ((standing m k.0).some, k.1, k.2, k.3),
               λ k. (R _).1 (exact.cannot_store.1 (some_stands sound k.0, k.1, k.2, k.3)),
             );
             verdict = says (Judged a.modulus m.unknowns es (equation_of m.unknowns ws)) (law.law.verdict es holds);

@@ -13,8 +13,8 @@ use Rattle.plans.specs.Samples.{pair}
 use Rattle.plans.specs.Solution.{SameLists}
 use Rattle.plans.proofs.SameLists.{lists_head}
 use Rattle.sheets.specs.Clearing.{new_again, clear_left}
-use Rattle.sheets.specs.Posted.{answer_of_lem}
-use Rattle.sheets.specs.Sheet.{Model, moves_after, stands, post_refusal_lem, outcome_of, after_unless, post_left}
+use Rattle.sheets.specs.Posted.{answer_of}
+use Rattle.sheets.specs.Sheet.{Model, moves_after, stands, post_refusal, outcome_of, after_unless, post_left}
 use Rattle.sheets.specs.declared.posting.Verdict.{Verdict}
 use Rattle.sheets.specs.declared.posting.Verdict.TheVariants.{Taken, Implied}
 use Rattle.sheets.proofs.OneStep.{open_sound, open_spare, post_keeps, clear_law, clear_sound, clear_spare, pick_law}
@@ -47,11 +47,11 @@ module _ {N C : Type 0} (a : Arithmetic N C) (laws : Laws a) where
   fewer (Err fault) k n h = h
 
   posting_few : (m : Model C) (ws : List ℤ) → Few m → Few (post_left a m ws)
-  posting_few m ws h = by (post_refusal_lem a m ws)
+  posting_few m ws h = by (post_refusal a m ws)
     where
       by : (o : Option SheetFault) → Few (after_unless a o m (outcome_of a m ws))
       by (Some fault) = h
-      by None = fewer (answer_of_lem (outcome_of a m ws)) m.moves m.unknowns h
+      by None = fewer (answer_of (outcome_of a m ws)) m.moves m.unknowns h
 
   clearing_few : (m : Model C) → Few m → Few (clear_left a m)
   clearing_few m h = by (stands m)

@@ -8,8 +8,8 @@ use Rattle.plans.specs.Posting.{Outcome, taken, implied, contradicted, overflow}
 use Rattle.sheets.specs.Cells.{main_cells, spare_cells, needed, zero_cells}
 use Rattle.sheets.specs.Clearing.{new_again, clear_answer, clear_left}
 use Rattle.sheets.specs.Law.{SpareZero}
-use Rattle.sheets.specs.Picking.{pick_refusal_lem, plan_in, pick_unless, words_unless, pick_answer, pick_left}
-use Rattle.sheets.specs.Sheet.{Model, stands, post_refusal_lem, outcome_of, answer_unless, after_unless, post_answer, post_left}
+use Rattle.sheets.specs.Picking.{pick_refusal, plan_in, pick_unless, words_unless, pick_answer, pick_left}
+use Rattle.sheets.specs.Sheet.{Model, stands, post_refusal, outcome_of, answer_unless, after_unless, post_answer, post_left}
 use Rattle.sheets.proofs.Refusals.{standing, postable}
 use Rattle.runs.specs.declared.call.Success.TheVariants.{Done}
 use Rattle.runs.specs.Calls.{verdict_answer, plain_answer}
@@ -28,9 +28,9 @@ module _ {N C : Type 0} (a : Arithmetic N C) (m : Model C) where
   with_cells cells e = ap (λ (xs : List C). record { cells = xs; unknowns = m.unknowns; moves = m.moves; list = m.list }) e
 
   pub posting_stays : (ws : List ℤ) → SpareZero a m → ¬ (verdict_answer (post_answer a m ws) ≡ Ok Done) → post_left a m ws ≡ m
-  posting_stays ws zero not_taken = by (post_refusal_lem a m ws) (outcome_of a m ws) refl not_taken
+  posting_stays ws zero not_taken = by (post_refusal a m ws) (outcome_of a m ws) refl not_taken
     where
-      by : (f : Option SheetFault) (o : Outcome N) → post_refusal_lem a m ws ≡ f → ¬ (verdict_answer (answer_unless a f o) ≡ Ok Done) → after_unless a f m o ≡ m
+      by : (f : Option SheetFault) (o : Outcome N) → post_refusal a m ws ≡ f → ¬ (verdict_answer (answer_unless a f o) ≡ Ok Done) → after_unless a f m o ≡ m
       by (Some fault) o e not_taken = refl
       by None (taken t) e not_taken = absurd (not_taken refl)
       by None implied e not_taken = with_cells _ (wiped_same (standing m (postable a m ws e).stand).some zero)
@@ -46,7 +46,7 @@ module _ {N C : Type 0} (a : Arithmetic N C) (m : Model C) where
 
   -- a picking that is not done keeps the words
   pub words_stay : (choice words : List ℤ) → ¬ (plain_answer (pick_answer a m choice words) ≡ Ok Done) → pick_left a m choice words ≡ words
-  words_stay choice words not_done = by (pick_refusal_lem a m choice (length words)) (plan_in a m choice) not_done
+  words_stay choice words not_done = by (pick_refusal a m choice (length words)) (plan_in a m choice) not_done
     where
       by : (o : Option SheetFault) (p : Option (List N)) → ¬ (plain_answer (pick_unless a o p) ≡ Ok Done) → words_unless a o p words ≡ words
       by (Some fault) p not_done = refl

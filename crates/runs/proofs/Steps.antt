@@ -1,7 +1,7 @@
 -- A run over the steps of a slice: what is known when some of the calls are made.
-use Rattle.std.proofs.Common.{◌≡◌, ℕ, ◌+◌, ◌<◌, ◌≤◌, List, [], ◌∷◌, ◌++◌, length, get_or, take, drop, set, sym, ap, ◌∙◌, subst, append_assoc, append-nil, arith}
+use Rattle.std.proofs.Common.{◌≡◌, ℕ, ◌+◌, ◌<◌, List, [], ◌∷◌, ◌++◌, length, get_or, take, drop, set, sym, ap, ◌∙◌, subst, append_assoc, arith}
 use lib.ListN.{length-map}
-use Rattle.std.proofs.lemmas.List.{get_or-map, take_more_set, drop_more, take_all, drop_all}
+use Rattle.std.proofs.lemmas.List.{get_or-map, take_more_set, drop_more}
 use lib.Seq.{map-set, map-set_same}
 use Rattle.kinds.specs.Kind.{Arithmetic}
 use Rattle.runs.specs.declared.call.Step.{Step}
@@ -47,16 +47,3 @@ module _ {N C : Type 0} (a : Arithmetic N C) (s : State C) (first : List Step) w
         behind = ap (λ (v : State C). left a v rest) after ∙ ap (left a t) (sym next) ∙ m.behind;
         lawful = λ laws. m.lawful (subst (CallsLaw a t) (sym next) (law, subst (λ (v : State C). CallsLaw a v rest) after laws));
       }
-
-  -- all calls are made
-  pub made_all : (t : State C) (steps : List Step) (i : ℕ) → length first ≤ i → length steps ≡ length first → Made a s t first steps i →
-      (answers_in steps ≡ answers a s (calls_in first)) × (t ≡ left a s (calls_in first)) × CallsLaw a s (calls_in first)
-  made_all t steps i h k m =
-      let none : drop i (calls_in first) ≡ [] = drop_all i (calls_in first) (rw (length-map first (λ step. called step.call)) h) in
-      let all : take i (answers_in steps) ≡ answers_in steps = take_all i (answers_in steps) (rw (length-map steps (λ step. step.answer)) (omega arith)) in
-      let ended : take i (answers_in steps) ++ answers a t (drop i (calls_in first)) ≡ answers_in steps =
-      ap (λ (cs : List Called). take i (answers_in steps) ++ answers a t cs) none ∙ append-nil (take i (answers_in steps)) ∙ all in (
-        sym ended ∙ m.answered,
-        ap (left a t) (sym none) ∙ m.behind,
-        m.lawful (subst (CallsLaw a t) (sym none) tt),
-      )

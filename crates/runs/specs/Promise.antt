@@ -5,11 +5,11 @@ use Rattle.std.specs.List.{AllByRecursion}
 use Rattle.faults.specs.declared.NumberFault.TheVariants.{NotAdmitted}
 use Rattle.faults.specs.declared.SheetFault.TheVariants.{Number, NoSheet, Count, Overflow, Contradicted}
 use Rattle.kinds.specs.Kind.{Arithmetic, Admitted}
-use Rattle.kinds.specs.Equation.{Equation}
+use Rattle.kinds.specs.Equation.{Equation, equation_of}
 use Rattle.plans.specs.Posting.{overflow}
 use Rattle.plans.specs.Solution.{SameLists, MeetsAll, made, Judgement, is_taken, is_implied, is_contradicted, Verdict, Holds}
 use Rattle.sheets.specs.Cells.{contents_in}
-use Rattle.sheets.specs.Law.{equation_of, contents_of, FirstRefused}
+use Rattle.sheets.specs.Law.{contents_of, FirstRefused}
 use Rattle.sheets.specs.Sheet.{Model, outcome_of}
 use Rattle.runs.specs.declared.call.Success.TheVariants.{Done, Implied}
 use Rattle.runs.specs.Calls.{Answered, Called, posting, clearing, picking, showing}

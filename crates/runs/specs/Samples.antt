@@ -3,12 +3,12 @@ use Rattle.std.specs.Prelude.{◌≡◌, ℕ, ◌-◌, List, [], ◌∷◌, ◌+
 use Rattle.faults.specs.Faults.{sheet_fault}
 use Rattle.faults.specs.declared.NumberFault.TheVariants.{Unknowns, ListNumber}
 use Rattle.faults.specs.declared.SheetFault.TheVariants.{Number, Count, FewCells, Overflow, Contradicted}
-use Rattle.kinds.specs.Equation.{Equation}
+use Rattle.kinds.specs.Equation.{Equation, equation_of}
 use Rattle.kinds.specs.Whole.{wholes}
 use Rattle.kinds.specs.declared.whole.WholeCell.{WholeCell}
 use Rattle.plans.specs.Samples.{pair}
 use Rattle.plans.specs.Solution.{MeetsAll, General}
-use Rattle.sheets.specs.Law.{equation_of, StandsFor, Sound, SpareZero, RefusalsExact, PostLaw, ClearLaw, PickLaw}
+use Rattle.sheets.specs.Law.{StandsFor, Sound, SpareZero, RefusalsExact, PostLaw, ClearLaw, PickLaw}
 use Rattle.sheets.specs.Sheet.{Model, checked, opened, post_left}
 use Rattle.sheets.specs.declared.posting.Verdict.TheVariants.{Taken, Implied}
 use Rattle.lines.specs.Page.{empty_page}

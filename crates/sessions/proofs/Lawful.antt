@@ -9,22 +9,21 @@ use Rattle.faults.specs.declared.NumberFault.TheVariants.{Lowest, Modulus, Unkno
 use Rattle.faults.specs.declared.LineFault.{LineFault}
 use Rattle.faults.specs.declared.SheetFault.{SheetFault}
 use Rattle.faults.specs.declared.SheetFault.TheVariants.{Page, Line, Number, NoSheet, Count, FewCells, Overflow, Contradicted}
-use Rattle.kinds.specs.Equation.{Equation}
+use Rattle.kinds.specs.Equation.{Equation, equation_of}
 use Rattle.kinds.specs.Kind.{Arithmetic, Laws}
 use Rattle.kinds.specs.Weekday.{weekdays}
 use Rattle.kinds.specs.Whole.{wholes}
 use Rattle.kinds.specs.Weekdays.{weekday_laws}
 use Rattle.kinds.specs.Wholes.{whole_laws}
 use Rattle.plans.specs.Solution.{Judgement, Verdict as Judged}
-use Rattle.sheets.specs.Law.{equation_of, StandsFor, in_force_after as direct_after, judgement_of as direct_judgement}
-use Rattle.sheets.specs.Picking.{pick_refusal_lem, plan_in, pick_unless}
+use Rattle.sheets.specs.Law.{StandsFor, in_force_after as direct_after, judgement_of as direct_judgement}
+use Rattle.sheets.specs.Picking.{pick_refusal, plan_in, pick_unless}
 use Rattle.sheets.specs.Sheet.{Model, post_answer, post_left}
 use Rattle.sheets.specs.declared.posting.Verdict.{Verdict}
-use Rattle.sheets.specs.declared.posting.Verdict.TheVariants.{Taken, Implied}
 use Rattle.sheets.proofs.OneStep.{new_stands, open_law, post_law}
 use Rattle.sessions.specs.Frames.{known, frame_kind, placed}
 use Rattle.sessions.specs.Law.{SessionStands, modulus_of, in_force_after, judgement_of, FrameLaw, LineLaw}
-use Rattle.sessions.specs.Lines.{posted_done, picked_done, done_unless, bare_refusal_lem, clear_done, cleared_unless, clear_in_line, ask_answer, ask_left}
+use Rattle.sessions.specs.Lines.{posted_done, picked_done, done_unless, numbers_refusal, clear_done, cleared_unless, clear_in_line, ask_answer, ask_left}
 use Rattle.sessions.specs.Session.{View, without_sheet, on_whole, on_weekday, whole_cells, weekday_cells, word, open_check, open_done, open_left, act, acted, unknowns_of, answer_by, after_by, line_after}
 use Rattle.sessions.specs.declared.frame.Chosen.{Chosen}
 use Rattle.sessions.specs.declared.frame.Chosen.TheVariants.{Whole, Weekday}
@@ -64,8 +63,7 @@ numbers_fit known bytes e =
 
 -- a direct posting's answer and a line's say the same
 force_same : (r : Result Verdict SheetFault) (e : Equation) (es : List Equation) → direct_after r e es ≡ in_force_after (posted_done r) e es
-force_same (Ok Taken) e es = refl
-force_same (Ok Implied) e es = refl
+force_same (Ok verdict) e es = refl
 force_same (Err fault) e es = refl
 
 judgement_placed : (fault : SheetFault) → judgement_of (Err (placed fault)) ≡ direct_judgement (Err fault)
@@ -83,8 +81,7 @@ judgement_placed Overflow = refl
 judgement_placed Contradicted = refl
 
 judgement_same : (r : Result Verdict SheetFault) → judgement_of (posted_done r) ≡ direct_judgement r
-judgement_same (Ok Taken) = refl
-judgement_same (Ok Implied) = refl
+judgement_same (Ok verdict) = refl
 judgement_same (Err fault) = judgement_placed fault
 
 module _ {N C : Type 0} (a : Arithmetic N C) (laws : Laws a) (m : Model C) (few : m.moves ≤ m.unknowns) (ws : List ℤ) (fit : AllByRecursion (SFits w32) ws) where
@@ -92,7 +89,7 @@ module _ {N C : Type 0} (a : Arithmetic N C) (laws : Laws a) (m : Model C) (few 
   e = equation_of m.unknowns ws
 
   cleared_stands : (es : List Equation) → StandsFor a m es → StandsFor a (clear_in_line a m ws) (in_force_after (clear_done m ws) e es)
-  cleared_stands es h = by (bare_refusal_lem m ws)
+  cleared_stands es h = by (numbers_refusal m ws)
     where
       by : (o : Option SheetFault) → StandsFor a (cleared_unless a o m) (in_force_after (done_unless o Cleared) e es)
       by None = new_stands a laws m.unknowns m.cells
@@ -110,13 +107,13 @@ module _ {N C : Type 0} (a : Arithmetic N C) (laws : Laws a) (m : Model C) (few 
   ask_stands : (q : Request) (es : List Equation) → StandsFor a m es → StandsFor a (ask_left a m q ws) (in_force_after (ask_answer a m q ws) e es)
   ask_stands Posting es h = subst (StandsFor a (post_left a m ws)) (force_same (post_answer a m ws) e es) ((post_law a laws m few ws (λ _. fit)).in_force es h)
   ask_stands Clear es h = cleared_stands es h
-  ask_stands Pick es h = subst (StandsFor a m) (picking_keeps es (pick_unless a (pick_refusal_lem a m ws m.unknowns) (plan_in a m ws))) h
-  ask_stands Show es h = subst (StandsFor a m) (showing_keeps es (bare_refusal_lem m ws)) h
+  ask_stands Pick es h = subst (StandsFor a m) (picking_keeps es (pick_unless a (pick_refusal a m ws m.unknowns) (plan_in a m ws))) h
+  ask_stands Show es h = subst (StandsFor a m) (showing_keeps es (numbers_refusal m ws)) h
 
   -- a request keeps the unknowns
   ask_unknowns : (q : Request) → (ask_left a m q ws).unknowns ≡ m.unknowns
   ask_unknowns Posting = (post_law a laws m few ws (λ _. fit)).unknowns
-  ask_unknowns Clear = by (bare_refusal_lem m ws)
+  ask_unknowns Clear = by (numbers_refusal m ws)
     where
       by : (o : Option SheetFault) → (cleared_unless a o m).unknowns ≡ m.unknowns
       by None = refl

@@ -12,14 +12,14 @@ use Rattle.sheets.specs.Cells.{needed}
 use Rattle.sheets.specs.Sheet.{in_range, natural, done, checked, opened_by, opened, Model}
 use Rattle.sessions.specs.Frames.{kind_of}
 use Rattle.sessions.specs.Law.{OpenedAs}
-use Rattle.sessions.specs.Lines.{checked_in_line, bare_refusal_lem, ask_answer}
+use Rattle.sessions.specs.Lines.{checked_in_line, numbers_refusal, ask_answer}
 use Rattle.sessions.specs.Session.{View, whole_cells, weekday_cells, word, unless_refused, open_by, open_check, open_done, open_left}
 use Rattle.sessions.specs.declared.frame.Chosen.{Chosen}
 use Rattle.sessions.specs.declared.frame.Chosen.TheVariants.{Whole, Weekday}
 use Rattle.sessions.specs.declared.frame.Done.TheVariants.{Opened, Cleared, Shown}
 use Rattle.sessions.specs.declared.frame.Request.{Request}
 use Rattle.sessions.specs.declared.frame.Request.TheVariants.{Equation, Clear, Pick, Show}
-use Rattle.sessions.proofs.Replies.{post_not, bare_not, picked_not}
+use Rattle.sessions.proofs.Replies.{post_not, no_numbers_not, picked_not}
 
 -- the modulus of a kind, and the cells of it
 abbrev modulus_by : Chosen → ℕ
@@ -97,6 +97,6 @@ open_done_as v ws e = by (open_check v ws) refl e
 -- what is asked of a sheet opens none
 pub ask_opens_none : {N C : Type 0} (a : Arithmetic N C) (m : Model C) (q : Request) (ws : List ℤ) → ask_answer a m q ws ≡ Ok Opened → ⊥
 ask_opens_none a m Equation ws e = post_not _ Opened (λ v h. cc) e
-ask_opens_none a m Clear ws e = bare_not (bare_refusal_lem m ws) Cleared Opened (λ h. cc) e
+ask_opens_none a m Clear ws e = no_numbers_not (numbers_refusal m ws) Cleared Opened (λ h. cc) e
 ask_opens_none a m Pick ws e = picked_not _ Opened (λ h. cc) e
-ask_opens_none a m Show ws e = bare_not (bare_refusal_lem m ws) Shown Opened (λ h. cc) e
+ask_opens_none a m Show ws e = no_numbers_not (numbers_refusal m ws) Shown Opened (λ h. cc) e

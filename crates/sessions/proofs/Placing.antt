@@ -8,12 +8,12 @@ use Rattle.lines.specs.Hex.{find}
 use Rattle.lines.proofs.Finding.{find_below}
 use Rattle.plans.specs.Posting.{Outcome, taken, implied, contradicted, overflow}
 use Rattle.sheets.specs.Picking.{plan_in, pick_unless, pick_answer}
-use Rattle.sheets.specs.Posted.{answer_of_lem}
+use Rattle.sheets.specs.Posted.{answer_of}
 use Rattle.sheets.specs.Sheet.{Model, stands, word_fault, outcome_of, answer_unless, post_answer}
 use Rattle.sheets.specs.Words.{is_refused}
 use Rattle.sessions.specs.Frames.{Placeable}
 
-outcome_placeable : {N : Type 0} (o : Outcome N) (fault : SheetFault) → answer_of_lem o ≡ Err fault → Placeable fault
+outcome_placeable : {N : Type 0} (o : Outcome N) (fault : SheetFault) → answer_of o ≡ Err fault → Placeable fault
 outcome_placeable (taken t) fault e = absurd cc
 outcome_placeable implied fault e = absurd cc
 outcome_placeable contradicted fault e = let f : Contradicted ≡ fault = cc in subst Placeable f tt

@@ -13,15 +13,15 @@ use Rattle.kinds.specs.Whole.{wholes}
 use Rattle.lines.specs.Line.{frame_of, numbers, refusal}
 use Rattle.lines.specs.Page.{Model as PageModel, with_text}
 use Rattle.sheets.specs.Cells.{contents_in}
-use Rattle.sheets.specs.Picking.{pick_refusal_lem, plan_in, pick_unless, words_unless}
+use Rattle.sheets.specs.Picking.{pick_refusal, plan_in, pick_unless, words_unless}
 use Rattle.sheets.specs.Sheet.{Model, stands}
-use Rattle.sheets.specs.Showing.{show_length, show_refusal_lem, shown_text, page_unless, show_left}
+use Rattle.sheets.specs.Showing.{show_length, show_refusal, shown_text, page_unless, show_left}
 use Rattle.sheets.specs.Words.{numbers_of}
 use Rattle.sheets.specs.declared.posting.Verdict.{Verdict}
 use Rattle.sheets.proofs.Plans.{plan_long}
 use Rattle.sheets.proofs.Shows.{text_behind, text_keeps}
 use Rattle.sessions.specs.Frames.{known, frame_kind}
-use Rattle.sessions.specs.Lines.{posted_done, picked_done, done_unless, bare_refusal_lem, pick_done, plan_words_lem, picked_words, plan_left, ask_answer, ask_left, ask_plan}
+use Rattle.sessions.specs.Lines.{posted_done, picked_done, done_unless, numbers_refusal, pick_done, plan_words, picked_words, plan_left, ask_answer, ask_left, ask_plan}
 use Rattle.sessions.specs.Session.{View, without_sheet, on_whole, on_weekday, view_on, view_by, view, open_check, open_done, act, acted, planned, answer_by, after_by, plan_by, line_answer, line_after, line_plan, answer_text, plan_text, unknowns_of, picked_of, show_on_lem, page_after, replied, shown_of, rest_text, lent_refusal}
 use Rattle.sessions.specs.declared.frame.Chosen.{Chosen}
 use Rattle.sessions.specs.declared.frame.Done.{Done}
@@ -64,9 +64,9 @@ pub post_not : (r : Result Verdict SheetFault) (done : Done) → ((v : Verdict) 
 post_not (Ok verdict) done n e = let f : Posted verdict ≡ done = cc in n verdict f
 post_not (Err fault) done n e = cc
 
-pub bare_not : (o : Option SheetFault) (x done : Done) → (x ≡ done → ⊥) → done_unless o x ≡ Ok done → ⊥
-bare_not None x done n e = let f : x ≡ done = cc in n f
-bare_not (Some fault) x done n e = cc
+pub no_numbers_not : (o : Option SheetFault) (x done : Done) → (x ≡ done → ⊥) → done_unless o x ≡ Ok done → ⊥
+no_numbers_not None x done n e = let f : x ≡ done = cc in n f
+no_numbers_not (Some fault) x done n e = cc
 
 pub picked_not : (r : Result Unit SheetFault) (done : Done) → (Picked ≡ done → ⊥) → picked_done r ≡ Ok done → ⊥
 picked_not (Ok _) done n e = let f : Picked ≡ done = cc in n f
@@ -78,7 +78,7 @@ Stands (without_sheet w d) = ⊥
 Stands (on_whole m d) = stands m ≡ true
 Stands (on_weekday w m) = stands m ≡ true
 
-check_stands : {C : Type 0} (m : Model C) (ws : List ℤ) → done_unless (bare_refusal_lem m ws) Shown ≡ Ok Shown → stands m ≡ true
+check_stands : {C : Type 0} (m : Model C) (ws : List ℤ) → done_unless (numbers_refusal m ws) Shown ≡ Ok Shown → stands m ≡ true
 check_stands m ws e = by (stands m) (eqb (length ws) 0) refl e
   where
     by : (t b : Bool) → stands m ≡ t → done_unless (cond t (cond b None (Some (Line LineCount))) (Some NoSheet)) Shown ≡ Ok Shown → stands m ≡ true
@@ -88,7 +88,7 @@ check_stands m ws e = by (stands m) (eqb (length ws) 0) refl e
 module _ {N C : Type 0} (a : Arithmetic N C) (m : Model C) where
   ask_stands : (q : Request) (ws : List ℤ) → ask_answer a m q ws ≡ Ok Shown → stands (ask_left a m q ws) ≡ true
   ask_stands Equation ws e = absurd (post_not _ Shown (λ v h. cc) e)
-  ask_stands Clear ws e = absurd (bare_not (bare_refusal_lem m ws) Cleared Shown (λ h. cc) e)
+  ask_stands Clear ws e = absurd (no_numbers_not (numbers_refusal m ws) Cleared Shown (λ h. cc) e)
   ask_stands Pick ws e = absurd (picked_not _ Shown (λ h. cc) e)
   ask_stands Show ws e = check_stands m ws e
 
@@ -96,10 +96,10 @@ module _ {N C : Type 0} (a : Arithmetic N C) (m : Model C) where
   picked_is : (ws old : List ℤ) → m.unknowns ≤ length old → pick_done a m ws ≡ Ok Picked → take m.unknowns (plan_left a m ws old) ≡ picked_words a m ws
   picked_is ws old h e =
       let l = length-take-le m.unknowns old h in
-      by (pick_refusal_lem a m ws m.unknowns) (plan_in a m ws) refl (ap (λ (n : ℕ). pick_refusal_lem a m ws n) l) e
+      by (pick_refusal a m ws m.unknowns) (plan_in a m ws) refl (ap (λ (n : ℕ). pick_refusal a m ws n) l) e
     where
-      by : (f : Option SheetFault) (plan : Option (List N)) → plan_in a m ws ≡ plan → pick_refusal_lem a m ws (length (take m.unknowns old)) ≡ f → picked_done (pick_unless a f plan) ≡ Ok Picked
-          → take m.unknowns (words_unless a (pick_refusal_lem a m ws (length (take m.unknowns old))) plan (take m.unknowns old) ++ drop m.unknowns old) ≡ plan_words_lem a plan
+      by : (f : Option SheetFault) (plan : Option (List N)) → plan_in a m ws ≡ plan → pick_refusal a m ws (length (take m.unknowns old)) ≡ f → picked_done (pick_unless a f plan) ≡ Ok Picked
+          → take m.unknowns (words_unless a (pick_refusal a m ws (length (take m.unknowns old))) plan (take m.unknowns old) ++ drop m.unknowns old) ≡ plan_words a plan
       by (Some fault) plan p q e = absurd cc
       by None (Some xs) p q e =
           ap (λ (f : Option SheetFault). take m.unknowns (words_unless a f (Some xs) (take m.unknowns old) ++ drop m.unknowns old)) q
@@ -108,9 +108,9 @@ module _ {N C : Type 0} (a : Arithmetic N C) (m : Model C) where
 
   ask_picked : (q : Request) (ws old : List ℤ) → m.unknowns ≤ length old → ask_answer a m q ws ≡ Ok Picked → take (ask_left a m q ws).unknowns (ask_plan a m q ws old) ≡ picked_words a (ask_left a m q ws) ws
   ask_picked Equation ws old h e = absurd (post_not _ Picked (λ v h. cc) e)
-  ask_picked Clear ws old h e = absurd (bare_not (bare_refusal_lem m ws) Cleared Picked (λ h. cc) e)
+  ask_picked Clear ws old h e = absurd (no_numbers_not (numbers_refusal m ws) Cleared Picked (λ h. cc) e)
   ask_picked Pick ws old h e = picked_is ws old h e
-  ask_picked Show ws old h e = absurd (bare_not (bare_refusal_lem m ws) Shown Picked (λ h. cc) e)
+  ask_picked Show ws old h e = absurd (no_numbers_not (numbers_refusal m ws) Shown Picked (λ h. cc) e)
 
 act_stands : (v : View) (f : Frame) (ws : List ℤ) → act v f ws ≡ Ok Shown → Stands (acted v f ws)
 act_stands v Open ws e = absurd (open_not (open_check v ws) Shown (λ h. cc) e)
@@ -146,7 +146,7 @@ show_fits a m p (s, f) t i h =
     let bytes : 5 + 8 * m.unknowns ≤ 197 = omega arith in
     let q : (m.moves + 1) * (5 + 8 * m.unknowns) ≤ 25 * 197 = mul-le-mul rows bytes in
     let r : ltb (length p.bytes) (p.end + show_length m) ≡ false = le-ltb (length p.bytes) (p.end + show_length m) (omega arith) in
-    let e : show_refusal_lem m p ≡ None = (λ j. cond (i j) (Some (Page LineBegun)) (cond (t j) (cond (r j) (Some (Page NoRoom)) None) (Some NoSheet))) in
+    let e : show_refusal m p ≡ None = (λ j. cond (i j) (Some (Page LineBegun)) (cond (t j) (cond (r j) (Some (Page NoRoom)) None) (Some NoSheet))) in
     ap (λ (o : Option SheetFault). page_unless a o m p) e
 
 shown_fits : (v : View) (p : PageModel) → Small v → Stands v → p.begun ≡ false → p.end + 4925 ≤ length p.bytes → show_on_lem v p ≡ with_text p (shown_of v)

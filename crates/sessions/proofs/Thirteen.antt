@@ -15,12 +15,12 @@ use Rattle.lines.specs.Line.{frame_of, numbers, refusal}
 use Rattle.plans.specs.Posting.{Outcome, taken, implied, contradicted, overflow}
 use Rattle.sheets.specs.Cells.{needed}
 use Rattle.sheets.specs.Picking.{plan_in, pick_unless}
-use Rattle.sheets.specs.Posted.{answer_of_lem}
+use Rattle.sheets.specs.Posted.{answer_of}
 use Rattle.sheets.specs.Sheet.{Model, in_range, natural, stands, word_fault, outcome_of, answer_unless, checked, done}
 use Rattle.sheets.specs.Words.{is_refused}
 use Rattle.sheets.specs.declared.posting.Verdict.TheVariants.{Taken, Implied}
 use Rattle.sessions.specs.Frames.{known, frame_kind, kind_of, answer_number}
-use Rattle.sessions.specs.Lines.{checked_in_line, posted_done, picked_done, done_unless, bare_refusal_lem, ask_answer}
+use Rattle.sessions.specs.Lines.{checked_in_line, posted_done, picked_done, done_unless, numbers_refusal, ask_answer}
 use Rattle.sessions.specs.Session.{View, without_sheet, on_whole, on_weekday, whole_cells, weekday_cells, word, unless_refused, open_by, open_check, open_done, act, answer_by, line_answer}
 use Rattle.sessions.specs.declared.frame.Chosen.{Chosen}
 use Rattle.sessions.specs.declared.frame.Chosen.TheVariants.{Whole, Weekday}
@@ -121,15 +121,15 @@ module _ (v : View) (w : length (whole_cells v) ≡ 1225) (d : length (weekday_c
       by true (Some Weekday) = check_fine (word ws 1) (word ws 2) (length (weekday_cells v)) d Weekday
       by true None = tt
 
-outcome_fine : {N : Type 0} (o : Outcome N) → Fine (posted_done (answer_of_lem o))
+outcome_fine : {N : Type 0} (o : Outcome N) → Fine (posted_done (answer_of o))
 outcome_fine (taken t) = tt
 outcome_fine implied = tt
 outcome_fine contradicted = tt
 outcome_fine overflow = tt
 
 module _ {N C : Type 0} (a : Arithmetic N C) (m : Model C) (ws : List ℤ) where
-  bare_fine : (done : Done) → Fine (done_unless (bare_refusal_lem m ws) done)
-  bare_fine done = by (stands m) (eqb (length ws) 0)
+  no_numbers_fine : (done : Done) → Fine (done_unless (numbers_refusal m ws) done)
+  no_numbers_fine done = by (stands m) (eqb (length ws) 0)
     where
       by : (b c : Bool) → Fine (done_unless (cond b (cond c None (Some (Line LineCount))) (Some NoSheet)) done)
       by false c = tt
@@ -158,9 +158,9 @@ module _ {N C : Type 0} (a : Arithmetic N C) (m : Model C) (ws : List ℤ) where
 
   ask_fine : (q : Request) → Fine (ask_answer a m q ws)
   ask_fine Posting = post_fine
-  ask_fine Clear = bare_fine Cleared
+  ask_fine Clear = no_numbers_fine Cleared
   ask_fine Pick = pick_fine
-  ask_fine Show = bare_fine Shown
+  ask_fine Show = no_numbers_fine Shown
 
 act_fine : (v : View) → length (whole_cells v) ≡ 1225 → length (weekday_cells v) ≡ 1225 → (f : Frame) (ws : List ℤ) → Fine (act v f ws)
 act_fine v w d Open ws = open_fine v w d ws

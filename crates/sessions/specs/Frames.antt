@@ -9,6 +9,7 @@ use Rattle.faults.specs.declared.SheetFault.{SheetFault}
 use Rattle.faults.specs.declared.SheetFault.TheVariants.{Page, Line, Number, NoSheet, Count, FewCells, Overflow, Contradicted}
 use Rattle.kinds.specs.Weekday.{weekdays}
 use Rattle.kinds.specs.Whole.{wholes}
+use Rattle.lines.specs.Line.{has}
 use Rattle.sheets.specs.declared.posting.Verdict.TheVariants.{Taken, Implied}
 use Rattle.sessions.specs.declared.frame.Frame.{Frame}
 use Rattle.sessions.specs.declared.frame.Frame.TheVariants.{Open, Ask}
@@ -28,9 +29,7 @@ frame_kind frame = cond (frame == 1) Open (cond (frame == 2) (Ask Equation) (con
 
 -- the same of any frame: one that is not known is refused
 abbrev pub frame_named : ℕ → Result Frame LineFault
-frame_named frame =
-    cond (frame == 1) (Ok Open)
-    (cond (frame == 2) (Ok (Ask Equation)) (cond (frame == 3) (Ok (Ask Clear)) (cond (frame == 4) (Ok (Ask Pick)) (cond (frame == 5) (Ok (Ask Show)) (Err LineFrame)))))
+frame_named frame = cond (has frame known) (Ok (frame_kind frame)) (Err LineFrame)
 
 -- the kind with this modulus
 abbrev pub kind_of : ℤ → Option Chosen

@@ -1,16 +1,14 @@
 -- What each line keeps to, in the words of equations and plans. Assumes nothing.
-use Rattle.std.specs.Prelude.{◌≡◌, ℕ, List, [], ◌∷◌, map, length, take, drop, ℤ, pos, Some, None, Ok, Err, Option, Result}
+use Rattle.std.specs.Prelude.{◌≡◌, ℕ, List, [], map, length, take, drop, ℤ, pos, Some, None, Ok, Err, Option, Result}
 use Rattle.faults.specs.declared.SheetFault.{SheetFault}
-use Rattle.faults.specs.declared.SheetFault.TheVariants.{Page, Line, Number, NoSheet, Count, FewCells, Overflow, Contradicted}
-use Rattle.kinds.specs.Equation.{Equation}
+use Rattle.kinds.specs.Equation.{Equation, equation_of}
 use Rattle.kinds.specs.Kind.{Arithmetic}
 use Rattle.kinds.specs.Weekday.{weekdays}
 use Rattle.kinds.specs.Whole.{wholes}
 use Rattle.lines.specs.Line.{frame_of, numbers}
-use Rattle.plans.specs.Solution.{SameLists, MeetsAll, made, Judgement, is_taken, is_implied, is_contradicted, Verdict}
-use Rattle.sheets.specs.Law.{equation_of, contents_of, StandsFor}
+use Rattle.plans.specs.Solution.{SameLists, MeetsAll, made, Judgement, Verdict}
+use Rattle.sheets.specs.Law.{judgement_of as sheet_judgement, in_force_after as sheet_in_force, contents_of, StandsFor}
 use Rattle.sheets.specs.Sheet.{Model}
-use Rattle.sheets.specs.declared.posting.Verdict.TheVariants.{Taken, Implied}
 use Rattle.sessions.specs.Frames.{frame_kind}
 use Rattle.sessions.specs.Session.{View, without_sheet, on_whole, on_weekday, word, unknowns_of, picked_of, plan_text, line_answer}
 use Rattle.sessions.specs.declared.frame.Done.{Done}
@@ -34,8 +32,7 @@ modulus_of (on_weekday w m) = weekdays.modulus
 -- a clearing or an opening that is done ends this for all, and nothing else changes them
 abbrev pub in_force_after : Result Done SheetFault → Equation → List Equation → List Equation
 in_force_after (Ok Opened) e es = []
-in_force_after (Ok (Posted Taken)) e es = e ∷ es
-in_force_after (Ok (Posted Implied)) e es = es
+in_force_after (Ok (Posted verdict)) e es = sheet_in_force (Ok verdict) e es
 in_force_after (Ok Cleared) e es = []
 in_force_after (Ok Picked) e es = es
 in_force_after (Ok Shown) e es = es
@@ -43,20 +40,12 @@ in_force_after (Err fault) e es = es
 
 -- what the answer to an equation says of it; a refusal that is no contradiction says nothing
 abbrev pub judgement_of : Result Done SheetFault → Option Judgement
-judgement_of (Ok (Posted Taken)) = Some is_taken
-judgement_of (Ok (Posted Implied)) = Some is_implied
+judgement_of (Ok (Posted verdict)) = sheet_judgement (Ok verdict)
 judgement_of (Ok Opened) = None
 judgement_of (Ok Cleared) = None
 judgement_of (Ok Picked) = None
 judgement_of (Ok Shown) = None
-judgement_of (Err Contradicted) = Some is_contradicted
-judgement_of (Err (Page fault)) = None
-judgement_of (Err (Line fault)) = None
-judgement_of (Err (Number fault)) = None
-judgement_of (Err NoSheet) = None
-judgement_of (Err Count) = None
-judgement_of (Err FewCells) = None
-judgement_of (Err Overflow) = None
+judgement_of (Err fault) = sheet_judgement (Err fault)
 
 -- the plan is the one that the choice makes, number by number, out of the fixed plan and the moves of the sheet m
 abbrev pub MadeOn : {N C : Type 0} → Arithmetic N C → Model C → List ℤ → List ℤ → Type 0

@@ -12,7 +12,7 @@ use sheets::posting::Verdict;
 pub const KNOWN: [u8; 5] = [0x01, 0x02, 0x03, 0x04, 0x05];
 
 // What a line asks of the sheet that is open. A run's calls are an enum of their own, since they hold their words.
-#[derive(Clone, Copy)]
+#[derive(Clone, Copy, Debug, PartialEq, Eq)]
 pub enum Request {
     Equation,
     Clear,
@@ -21,21 +21,21 @@ pub enum Request {
 }
 
 // What a line asks for. Kept as an enum: an opening is a frame too, and not the lack of a request.
-#[derive(Clone, Copy)]
+#[derive(Clone, Copy, Debug, PartialEq, Eq)]
 pub enum Frame {
     Open,
     Ask(Request),
 }
 
 // The kind of number that an opening chooses.
-#[derive(Clone, Copy)]
+#[derive(Clone, Copy, Debug, PartialEq, Eq)]
 pub enum Chosen {
     Whole,
     Weekday,
 }
 
 // What came of a line that is not refused.
-#[derive(Clone, Copy)]
+#[derive(Clone, Copy, Debug, PartialEq, Eq)]
 pub enum Done {
     Opened,
     Posted(Verdict),

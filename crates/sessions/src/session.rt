@@ -6,7 +6,7 @@ ghost use Rattle.sessions.specs.Session.{view, new_session, open_check, open_don
 ghost use Rattle.sessions.specs.Wiped.{wiped};
 
 use crate::frame::{Chosen, Done, Frame, number_of, place_of};
-use crate::sheet_calls::{MOST_UNKNOWNS, ask_on, open_on, show_on};
+use crate::sheet_calls::{ask_on, open_on, show_on};
 use crate::unpacked::Unpacked;
 use faults::{LineFault, PageFault, SheetFault};
 use kinds::weekday::{Weekday, WeekdayCell};
@@ -14,7 +14,7 @@ use kinds::whole::{Whole, WholeCell};
 use lines::page::Page;
 use lines::reading::MOST_NUMBERS;
 use lines::writing::write_line;
-use sheets::shape::Outline;
+use sheets::shape::{MOST_UNKNOWNS, Outline};
 
 // As many cells as the largest sheet needs: the memory of a session is fixed, with no heap.
 pub const CELLS: usize = 1225;

@@ -4,17 +4,14 @@ ghost use Rattle.std.specs.Prelude.{◌≡◌, ◌≤◌, length, Some, None, Ok
 ghost use Rattle.lines.specs.Page.{model as page_model};
 ghost use Rattle.sheets.specs.Sheet.{model, model_of, checked, opened, post_answer, post_left};
 ghost use Rattle.sheets.specs.Showing.{show_left};
-ghost use Rattle.sessions.specs.Lines.{checked_in_line, posted_done, bare_refusal_lem as bare_refusal_of, show_check_lem as show_check_of, clear_done, clear_in_line, pick_done, plan_left, ask_answer, ask_left, ask_plan};
+ghost use Rattle.sessions.specs.Lines.{checked_in_line, posted_done, numbers_refusal, show_check_lem as show_check_of, clear_done, clear_in_line, pick_done, plan_left, ask_answer, ask_left, ask_plan};
 
 use crate::frame::{Done, Request, placed_in_line};
 use faults::{LineFault, SheetFault};
 use kinds::kind::Kind;
 use lines::page::Page;
-use sheets::shape::Outline;
+use sheets::shape::{MOST_UNKNOWNS, Outline};
 use sheets::sheet::{Sheet, check};
-
-// As many unknowns as a sheet may have.
-pub(crate) const MOST_UNKNOWNS: usize = 24;
 
 // Opens a new sheet, unless the check refuses.
 pub(crate) fn open_on<K: Kind>(
@@ -40,8 +37,8 @@ fn post<K: Kind>(sheet: &mut Sheet<K>, words: &[i32]) -> Result<Done, SheetFault
 }
 
 // Refuses a line that must have no numbers.
-fn bare<K: Kind>(sheet: &Sheet<K>, words: &[i32]) -> Result<(), SheetFault>
-    ensures { MatchResult result (λ _. bare_refusal_of (model sheet.now) words.now ≡ None) (λ fault. bare_refusal_of (model sheet.now) words.now ≡ Some fault) }
+fn no_numbers<K: Kind>(sheet: &Sheet<K>, words: &[i32]) -> Result<(), SheetFault>
+    ensures { MatchResult result (λ _. numbers_refusal (model sheet.now) words.now ≡ None) (λ fault. numbers_refusal (model sheet.now) words.now ≡ Some fault) }
 {
     if !sheet.stands() {
         return Err(SheetFault::NoSheet);
@@ -58,7 +55,7 @@ fn clear<K: Kind>(sheet: &mut Sheet<K>, words: &[i32]) -> Result<Done, SheetFaul
     ensures answer { result ≡ clear_done (model sheet.old) words.now }
     ensures left { model sheet.new ≡ clear_in_line K.Kind.arith (model sheet.old) words.now }
 {
-    bare(sheet, words)?;
+    no_numbers(sheet, words)?;
     sheet.clear().unwrap();
     Ok(Done::Cleared)
 }
@@ -84,7 +81,7 @@ fn pick<K: Kind>(
 fn show_check<K: Kind>(sheet: &Sheet<K>, words: &[i32]) -> Result<Done, SheetFault>
     ensures { result ≡ show_check_of (model sheet.now) words.now }
 {
-    bare(sheet, words)?;
+    no_numbers(sheet, words)?;
     Ok(Done::Shown)
 }
 

@@ -14,7 +14,7 @@ const LAST_LINE: i32 = 1_000_000;
 
 // A session, and the memory that its answers are written to: fixed arrays, with no heap.
 #[derive(Drop)]
-struct Desk {
+struct Answerer {
     session: Session,
     // How many lines were answered.
     lines: i32,
@@ -22,9 +22,9 @@ struct Desk {
     words: [i32; MOST_NUMBERS],
 }
 
-impl Desk {
-    fn new() -> Desk {
-        Desk {
+impl Answerer {
+    fn new() -> Answerer {
+        Answerer {
             session: Session::new(),
             lines: 0,
             out: [0; OUTPUT],
@@ -57,16 +57,16 @@ fn main(rt: HostRuntime) -> io::Result<()> {
     let mut input = BufReader::new(rt.alloc(), rt.stdin())?;
     let mut out = BufWriter::new(rt.alloc(), rt.stdout())?;
     let mut cutter = Cutter::new();
-    let mut desk = Desk::new();
+    let mut answerer = Answerer::new();
     let mut answer = |chunk: &[u8]| -> io::Result<bool> {
-        cutter.each_line(chunk, &mut |line| desk.answer(line, &mut out))?;
+        cutter.each_line(chunk, &mut |line| answerer.answer(line, &mut out))?;
         out.flush()?;
-        Ok(!desk.is_done())
+        Ok(!answerer.is_done())
     };
     each_chunk(&mut input, &mut answer)?;
     // A last line that lacks its line feed counts if it has a byte.
     if !cutter.line().is_empty() {
-        desk.answer(cutter.line(), &mut out)?;
+        answerer.answer(cutter.line(), &mut out)?;
     }
     out.flush()
 }

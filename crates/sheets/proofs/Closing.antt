@@ -1,12 +1,13 @@
 -- What a posting leaves, written back cell by cell.
 use Rattle.std.proofs.Common.{◌≡◌, ℕ, zero, suc, ◌+◌, ◌-◌, ◌*◌, ◌<◌, ◌≤◌, List, [], ◌∷◌, ◌++◌, map, length, get_or, take, sym, refl, ap, ◌∙◌, inr, ⊎_elim, mul-le-mul_right, zero-add, arith}
 use Rattle.std.specs.List.{flat_map}
-use Rattle.std.proofs.lemmas.List.{length-append, length-map, map-append, get_or-map, ext_get_or}
+use Rattle.std.proofs.lemmas.List.{length-append, length-map, map-append, get_or-map}
 use Rattle.std.proofs.lemmas.Bool.{cases_lt}
 use Rattle.kinds.specs.Kind.{Arithmetic}
 use Rattle.lines.specs.Page.{over}
 use Rattle.plans.specs.Posting.{Column, without}
-use Rattle.sheets.specs.Cells.{part, number, numbers, number_at, held, zero_cells, main_of}
+use Rattle.plans.proofs.Vectors.{without_length}
+use Rattle.sheets.specs.Cells.{part, numbers, held, zero_cells, main_of}
 use Rattle.sheets.specs.Work.{column_at, columns_at, Source, left_at}
 use Rattle.sheets.proofs.Laying.{over_append}
 use Rattle.sheets.proofs.Numbers.{length_numbers_part}
@@ -14,14 +15,8 @@ use Rattle.sheets.proofs.Places.{column_in}
 use Rattle.sheets.proofs.Rounding.{column_of, length_columns}
 use Rattle.sheets.proofs.Rows.{length_so_far, length_rows, rows_start, rows_more, rows_end}
 use Rattle.sheets.proofs.Standing.{part_other}
-use Rattle.sheets.proofs.Walks.{get_d_over}
 
 -- a list without one place
-length_without : {X : Type 0} (xs : List X) (l : ℕ) → l < length xs → suc (length (without xs l)) ≡ length xs
-length_without [] l h = absurd (omega arith)
-length_without (x ∷ xs) zero h = refl
-length_without (x ∷ xs) (suc l) h = ap suc (length_without xs l (omega arith))
-
 without_before : {X : Type 0} (xs : List X) (l j : ℕ) (d : X) → j < l → l < length xs → get_or (without xs l) j d ≡ get_or xs j d
 without_before [] l j d b h = absurd (omega arith)
 without_before (x ∷ xs) zero j d b h = absurd (omega arith)
@@ -45,7 +40,7 @@ module _ {N C : Type 0} (a : Arithmetic N C) (n p k l : ℕ) (start : List C) (m
   L = map (λ c. c.low) (without T l)
 
   pub length_L : length L ≡ k - 1
-  length_L = length-map (without T l) (λ c. c.low) ∙ (let t = length_columns a n (p + (n + 1)) k start in let w = length_without T l (omega arith) in omega arith)
+  length_L = length-map (without T l) (λ c. c.low) ∙ (let t = length_columns a n (p + (n + 1)) k start in let w = without_length T l (omega arith) in omega arith)
 
   length_F : length F ≡ n
   length_F = length_numbers_part a start (p + 1) n (omega arith)
@@ -54,7 +49,7 @@ module _ {N C : Type 0} (a : Arithmetic N C) (n p k l : ℕ) (start : List C) (m
   move_left : (j r : ℕ) → j < k - 1 → Source j l r → (r < k) × (get_or L j [] ≡ numbers a (part (p + (n + 1) + r * (n + 1) + 1) n start))
   move_left j r h s =
       let t = length_columns a n (p + (n + 1)) k start in
-      let w = length_without T l (omega arith) in
+      let w = without_length T l (omega arith) in
       let d = column_at a start n 0 in
       let m : get_or L j [] ≡ (get_or (without T l) j d).low = get_or-map (λ (c : Column N). c.low) (without T l) j d [] (omega arith) in
       ⊎_elim
@@ -74,7 +69,7 @@ module _ {N C : Type 0} (a : Arithmetic N C) (n p k l : ℕ) (start : List C) (m
           let c = column_in r k (n + 1) m.0 in
           ap length m.1 ∙ length_numbers_part a start (p + (n + 1) + r * (n + 1) + 1) n (omega arith)
 
-  each_left : (j : ℕ) → j < length L → length (get_or L j []) ≡ n
+  pub each_left : (j : ℕ) → j < length L → length (get_or L j []) ≡ n
   each_left j h = let ll = length_L in each_long j (omega arith)
 
   pub square : n + (k - 1) * n ≤ p
@@ -126,19 +121,3 @@ module _ {N C : Type 0} (a : Arithmetic N C) (n p k l : ℕ) (start : List C) (m
       ∙ ap (λ (i : ℕ). over (over start 0 (held a (F ++ J))) i (zero_cells a ((n - (k - 1)) * n))) (omega arith)
       ∙ over_append start (held a (F ++ J)) (zero_cells a ((n - (k - 1)) * n)) 0 (omega arith)
       ∙ ap (λ (i : ℕ). over start 0 (held a (F ++ J) ++ zero_cells a ((n - i) * n))) (sym ll)
-
--- a change before the columns leaves them
-pub columns_behind : {N C : Type 0} (a : Arithmetic N C) (n first k : ℕ) (cs s : List C) → length s ≤ first → first + k * (n + 1) ≤ length cs → columns_at a (over cs 0 s) n first k ≡ columns_at a cs n first k
-columns_behind {N} {C} a n first k cs s h room =
-    let ds = over cs 0 s in
-    let z = a.to_cell a.zero in
-    let d = column_at a cs n 0 in
-    ext_get_or d (columns_at a ds n first k) (columns_at a cs n first k) (length_columns a n first k ds ∙ sym (length_columns a n first k cs))
-    (λ j b.
-    let jk : j < k = let l = length_columns a n first k ds in omega arith in
-    let c = column_in j k (n + 1) jk in
-    let q = first + j * (n + 1) in
-    let t : number_at a ds q ≡ number_at a cs q = ap (number a) (get_d_over cs s 0 q z (omega arith) (inr (omega arith))) in
-    let u : numbers a (part (q + 1) n ds) ≡ numbers a (part (q + 1) n cs) = ap (numbers a) (part_other z cs s 0 (q + 1) n (omega arith) (omega arith) (inr (omega arith))) in
-    let e : column_at a ds n q ≡ column_at a cs n q = λ i. record { top = t i; low = u i } in
-    column_of a n first k ds j d jk ∙ e ∙ sym (column_of a n first k cs j d jk))

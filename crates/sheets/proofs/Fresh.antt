@@ -3,10 +3,11 @@ use Rattle.std.proofs.Common.{◌≡◌, ℕ, zero, suc, ◌+◌, ◌-◌, ◌*�
 use native.Mathlib.Nat.{add-sub_cancel_left, sub_self}
 use lib.LanesLaws.{map-replicate}
 use Rattle.std.specs.List.{flat_map}
-use Rattle.std.proofs.lemmas.List.{append_assoc, append-nil, length-append, length-map, length-replicate, length-set, length-take-le, map-append, map-set, get_or-map, set-append_left, set-append_right}
+use Rattle.std.proofs.lemmas.List.{append_assoc, append-nil, length-append, length-replicate, length-set, length-take-le, map-append, map-set, get_or-map, set-append_left, set-append_right}
 use Rattle.kinds.specs.Kind.{Arithmetic}
 use Rattle.lines.specs.Page.{over}
 use Rattle.plans.specs.Sheet.{unit_moves, new_sheet}
+use Rattle.plans.proofs.NewSheet.{units_many}
 use Rattle.sheets.specs.Cells.{held, zero_cells, needed, spare_cells, sheet_cells}
 use Rattle.sheets.proofs.Laying.{over_append}
 use Rattle.sheets.proofs.Rows.{length_rows}
@@ -21,21 +22,17 @@ set_over {X} cells s p j y h b =
     ∙ ap (λ (x : List X). T ++ x) (set-append_left s D j y b ∙ ap (λ (i : ℕ). set s j y ++ drop (p + i) cells) (sym (length-set s j y)))
 
 module _ {N C : Type 0} (a : Arithmetic N C) where
-  pub length_units : (n : ℕ) → length (unit_moves a n) ≡ n
-  length_units zero = refl
-  length_units (suc n) = ap suc (length-map (unit_moves a n) (λ move. a.zero ∷ move) ∙ length_units n)
-
   -- move j is 1 at unknown j and 0 elsewhere
   unit_is : (n j : ℕ) → j < n → get_or (unit_moves a n) j [] ≡ set (replicate n a.zero) j a.one
   unit_is zero j h = absurd (omega arith)
   unit_is (suc n) zero h = refl
   unit_is (suc n) (suc j) h =
-      let l = length_units n in
+      let l = units_many a n in
       get_or-map (λ move. a.zero ∷ move) (unit_moves a n) j [] [] (omega arith) ∙ ap (λ (m : List N). a.zero ∷ m) (unit_is n j (omega arith))
 
   pub each_unit : (n j : ℕ) → j < length (unit_moves a n) → length (get_or (unit_moves a n) j []) ≡ n
   each_unit n j h =
-      let l = length_units n in
+      let l = units_many a n in
       ap length (unit_is n j (omega arith)) ∙ length-set (replicate n a.zero) j a.one ∙ length-replicate n a.zero
 
   pub unit_laid : (n from j : ℕ) (cs ds es : List C) (x : N) → from + n ≤ length cs → j < n → ds ≡ over cs from (zero_cells a n) → x ≡ a.one → es ≡ set ds (from + j) (a.to_cell x) → es ≡ over cs from (held a (get_or (unit_moves a n) j []))
@@ -52,7 +49,7 @@ module _ {N C : Type 0} (a : Arithmetic N C) where
       let Z = zero_cells a n in
       let J = held a (flat_map (λ move. move) (unit_moves a n)) in
       let S = zero_cells a (spare_cells n) in
-      let lu = length_units n in
+      let lu = units_many a n in
       let lz : length Z ≡ n = length-replicate n (a.to_cell a.zero) in
       let ls : length S ≡ spare_cells n = length-replicate (spare_cells n) (a.to_cell a.zero) in
       let lj : length J ≡ n * n = length_rows a n (unit_moves a n) (each_unit n) ∙ ap (λ (i : ℕ). i * n) lu in
@@ -71,7 +68,7 @@ module _ {N C : Type 0} (a : Arithmetic N C) where
       main_n : n * (n + 1) ≡ 0 + length (zero_cells a n ++ held a (flat_map (λ move. move) (unit_moves a n)))
       main_n =
           let z = length-replicate n (a.to_cell a.zero) in
-          let lj = length_rows a n (unit_moves a n) (each_unit n) ∙ ap (λ (i : ℕ). i * n) (length_units n) in
+          let lj = length_rows a n (unit_moves a n) (each_unit n) ∙ ap (λ (i : ℕ). i * n) (units_many a n) in
           let la = length-append (zero_cells a n) (held a (flat_map (λ move. move) (unit_moves a n))) in
           let m = mul-add n n 1 in
           let o = mul-one n in
@@ -79,7 +76,7 @@ module _ {N C : Type 0} (a : Arithmetic N C) where
 
       main : held a (replicate n a.zero ++ flat_map (λ move. move) (unit_moves a n)) ++ zero_cells a ((n - length (unit_moves a n)) * n) ≡ zero_cells a n ++ held a (flat_map (λ move. move) (unit_moves a n))
       main =
-          let none : (n - length (unit_moves a n)) * n ≡ 0 = ap (λ (i : ℕ). (n - i) * n) (length_units n) ∙ ap (λ (i : ℕ). i * n) (sub_self n) ∙ zero-mul n in
+          let none : (n - length (unit_moves a n)) * n ≡ 0 = ap (λ (i : ℕ). (n - i) * n) (units_many a n) ∙ ap (λ (i : ℕ). i * n) (sub_self n) ∙ zero-mul n in
           ap (λ (i : ℕ). held a (replicate n a.zero ++ flat_map (λ move. move) (unit_moves a n)) ++ zero_cells a i) none
           ∙ append-nil (held a (replicate n a.zero ++ flat_map (λ move. move) (unit_moves a n)))
           ∙ map-append a.to_cell (replicate n a.zero) (flat_map (λ move. move) (unit_moves a n))

@@ -1,17 +1,17 @@
 -- Columns laid one behind another, and multiplied one after another.
 use Rattle.std.proofs.Common.{◌≡◌, ℕ, ◌+◌, ◌-◌, ◌*◌, ◌<◌, ◌≤◌, ◌≢◌, List, [], ◌∷◌, ◌++◌, length, get_or, take, drop, set, Some, None, Option, sym, refl, ap, ◌∙◌, inl, add-zero, arith}
 use Rattle.std.proofs.lemmas.List.FromFn.{length-map-range_with_len, get_or-map-range_with_len, map-range_with_len_more}
-use Rattle.std.proofs.lemmas.List.{append_assoc, length-append, length-map, length-take-le, take_at, drop_at, drop-drop, drop-take, take-take, take_all, take_more, drop_more, take-append-drop, ext_get_or}
+use Rattle.std.proofs.lemmas.List.{append_assoc, length-append, length-map, length-take-le, take_at, drop_at, drop-drop, drop-take, take-take, take_all, take_more, drop_more, take-append-drop}
 use Rattle.kinds.specs.Kind.{Arithmetic, Laws}
 use Rattle.lines.specs.Page.{over}
-use Rattle.plans.specs.Posting.{then, Column, running, adds_column, blank, topped, normalised, total_size}
-use Rattle.sheets.specs.Cells.{part, numbers, held, number_at, move_at, moves_at}
+use Rattle.plans.specs.Posting.{then, Column, running, adds_column, blank, topped, normalised}
+use Rattle.sheets.specs.Cells.{part, numbers, held, move_at, moves_at}
 use Rattle.sheets.specs.Work.{Only, column_at, columns_at, Laid}
 use Rattle.sheets.proofs.Numbers.{length_numbers_part}
 use Rattle.sheets.proofs.Places.{column_in}
 use Rattle.sheets.specs.Combining.{Within}
 use Rattle.sheets.proofs.Limits.{only_within, within_trans}
-use Rattle.sheets.proofs.Rounding.{column_other, column_of, length_columns, columns_apart}
+use Rattle.sheets.proofs.Rounding.{column_other, column_of, columns_kept, length_columns, columns_apart}
 use Rattle.sheets.proofs.Standing.{part_other, column_put}
 use Rattle.sheets.proofs.Walks.{over_nothing, over_push}
 
@@ -58,16 +58,6 @@ module _ {N C : Type 0} (a : Arithmetic N C) (n p : ℕ) where
   pub columns_push : (cs : List C) (j : ℕ) → columns_at a cs n p (j + 1) ≡ columns_at a cs n p j ++ column_at a cs n (p + j * (n + 1)) ∷ []
   columns_push cs j = map-range_with_len_more (λ i. column_at a cs n (p + i * (n + 1))) 0 j j (omega arith)
 
-  -- a change of a column, or behind them, leaves those before
-  pub columns_before : (cs ds : List C) (j q : ℕ) → Only q (n + 1) cs ds → q + (n + 1) ≤ length cs → p + j * (n + 1) ≤ q → columns_at a ds n p j ≡ columns_at a cs n p j
-  columns_before cs ds j q o h b =
-      let d = column_at a cs n 0 in
-      ext_get_or d (columns_at a ds n p j) (columns_at a cs n p j) (length_columns a n p j ds ∙ sym (length_columns a n p j cs))
-      (λ i k.
-      let ij : i < j = let l = length_columns a n p j ds in omega arith in
-      let c = column_in i j (n + 1) ij in
-      column_of a n p j ds i d ij ∙ column_other a n cs ds q (p + i * (n + 1)) o h (omega arith) (inl (omega arith)) ∙ sym (column_of a n p j cs i d ij))
-
 -- definitions by lists, one element more at their end
 module _ {N C : Type 0} (a : Arithmetic N C) where
   topped_push : (cs : List N) (vs : List (List N)) (v : List N) (ds : List (Column N)) (t : N) → topped a cs vs ≡ Some ds → running a a.zero cs v ≡ Some t → topped a cs (vs ++ v ∷ []) ≡ Some (ds ++ record { top = t; low = v } ∷ [])
@@ -79,8 +69,8 @@ module _ {N C : Type 0} (a : Arithmetic N C) where
       by : (o : Option N) (s : Option (List (Column N))) → topped a cs vs ≡ s → then o (λ t. then s (λ ds. Some (record { top = t; low = w } ∷ ds))) ≡ Some ds
           → ((es : List (Column N)) → topped a cs vs ≡ Some es → topped a cs (vs ++ v ∷ []) ≡ Some (es ++ record { top = t; low = v } ∷ []))
           → then o (λ t. then (topped a cs (vs ++ v ∷ [])) (λ ds. Some (record { top = t; low = w } ∷ ds))) ≡ Some (ds ++ record { top = t; low = v } ∷ [])
-      by None s h e rest = let z : ◌≡◌ {A = ℕ} 0 1 = cc in absurd (omega arith)
-      by (Some u) None h e rest = let z : ◌≡◌ {A = ℕ} 0 1 = cc in absurd (omega arith)
+      by None s h e rest = absurd cc
+      by (Some u) None h e rest = absurd cc
       by (Some u) (Some es) h e rest =
           let z : record { top = u; low = w } ∷ es ≡ ds = cc in
           ap (λ (o : Option (List (Column N))). then o (λ ds. Some (record { top = u; low = w } ∷ ds))) (rest es h) ∙ ap (λ (x : List (Column N)). Some (x ++ record { top = t; low = v } ∷ [])) z
@@ -105,8 +95,8 @@ module _ {N C : Type 0} (a : Arithmetic N C) where
       by : (o : Option (Column N)) (s : Option (List (Column N))) → normalised a cs ≡ s → then o (λ d. then s (λ ds. Some (d ∷ ds))) ≡ Some ds
           → ((es : List (Column N)) → normalised a cs ≡ Some es → normalised a (cs ++ c ∷ []) ≡ Some (es ++ d ∷ []))
           → then o (λ d. then (normalised a (cs ++ c ∷ [])) (λ ds. Some (d ∷ ds))) ≡ Some (ds ++ d ∷ [])
-      by None s h e rest = let z : ◌≡◌ {A = ℕ} 0 1 = cc in absurd (omega arith)
-      by (Some u) None h e rest = let z : ◌≡◌ {A = ℕ} 0 1 = cc in absurd (omega arith)
+      by None s h e rest = absurd cc
+      by (Some u) None h e rest = absurd cc
       by (Some u) (Some es) h e rest =
           let z : u ∷ es ≡ ds = cc in
           ap (λ (o : Option (List (Column N))). then o (λ ds. Some (u ∷ ds))) (rest es h) ∙ ap (λ (x : List (Column N)). Some (x ++ d ∷ [])) z
@@ -158,7 +148,7 @@ module _ {N C : Type 0} (a : Arithmetic N C) (cs : List N) (n p k : ℕ) (start 
       let i : Within p (k * (n + 1)) now next = only_within z (p + j * (n + 1)) (n + 1) p (k * (n + 1)) now next o (omega arith) (omega arith) (omega arith) in
       let q : columns_at a next n p (j + 1) ≡ columns_at a now n p j ++ record { top = t; low = get_or M j [] } ∷ []
       = columns_push a n p next j
-      ∙ ap (λ (x : List (Column N)). x ++ column_at a next n (p + j * (n + 1)) ∷ []) (columns_before a n p now next j (p + j * (n + 1)) o (omega arith) (omega arith))
+      ∙ ap (λ (x : List (Column N)). x ++ column_at a next n (p + j * (n + 1)) ∷ []) (columns_kept a n p j now next (omega arith) (p + j * (n + 1)) (n + 1) o (omega arith) (inl (omega arith)))
       ∙ ap (λ (x : Column N). columns_at a now n p j ++ x ∷ []) c
       ∙ ap (λ (x : List N). columns_at a now n p j ++ record { top = t; low = x } ∷ []) m in
       record {
@@ -206,11 +196,11 @@ module _ {N C : Type 0} (a : Arithmetic N C) (n p k : ℕ) (start : List C) (roo
         sum =
             ap (normalised a) (take_more S j first_column (omega arith))
             ∙ normalised_push a (take j S) (columns_at a now n p j) (get_or S j first_column) c w.sum (normal_of j now (Some c) h w e)
-            ∙ ap Some (sym (columns_push a n p next j ∙ ap (λ (x : List (Column N)). x ++ c ∷ []) (columns_before a n p now next j (p + j * (n + 1)) o (omega arith) (omega arith))));
+            ∙ ap Some (sym (columns_push a n p next j ∙ ap (λ (x : List (Column N)). x ++ c ∷ []) (columns_kept a n p j now next (omega arith) (p + j * (n + 1)) (n + 1) o (omega arith) (inl (omega arith)))));
         rest = λ m lo hi.
             let ne : m ≢ j = omega arith in
             let y = column_in m k (n + 1) hi in
-            column_other a n now next (p + j * (n + 1)) (p + m * (n + 1)) o (omega arith) (omega arith) (columns_apart a n p k m j ne) ∙ w.rest m (omega arith) hi;
+            column_other a n now next (p + j * (n + 1)) (n + 1) (p + m * (n + 1)) o (omega arith) (omega arith) (columns_apart a n p k m j ne) ∙ w.rest m (omega arith) hi;
       }
 
   pub units_end : (j : ℕ) (now : List C) → j ≡ k → Units a n p k start j now → (normalised a S ≡ Some (columns_at a now n p k)) × Within p (k * (n + 1)) start now
@@ -218,16 +208,3 @@ module _ {N C : Type 0} (a : Arithmetic N C) (n p k : ℕ) (start : List C) (roo
     sym (ap (normalised a) (take_all j S (let l = length_columns a n p k start in omega arith))) ∙ w.sum ∙ ap (λ (i : ℕ). Some (columns_at a now n p i)) e,
     w.inside,
   )
-
--- the sum of the tops' sizes
-module _ {N C : Type 0} (a : Arithmetic N C) where
-  total_push : (cs : List (Column N)) (c : Column N) → total_size a (cs ++ c ∷ []) ≡ total_size a cs + a.size c.top
-  total_push [] c = omega arith
-  total_push (b ∷ cs) c = let i = total_push cs c in omega arith
-
-  total_part : (cs ds : List (Column N)) (c : Column N) → a.size c.top ≤ total_size a (cs ++ c ∷ ds)
-  total_part [] ds c = omega arith
-  total_part (b ∷ cs) ds c = let i = total_part cs ds c in omega arith
-
-  pub total_zero : (cells : List C) (n p j : ℕ) → total_size a (columns_at a cells n p j) ≡ 0 → a.size (number_at a cells (p + j * (n + 1))) ≡ 0 → total_size a (columns_at a cells n p (j + 1)) ≡ 0
-  total_zero cells n p j e f = ap (total_size a) (columns_push a n p cells j) ∙ total_push (columns_at a cells n p j) (column_at a cells n (p + j * (n + 1))) ∙ omega arith

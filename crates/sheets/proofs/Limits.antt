@@ -4,7 +4,7 @@ use Rattle.std.proofs.lemmas.List.{length-take-le, length-drop, get_or-drop, tak
 use Rattle.sheets.specs.Combining.{Within}
 use Rattle.sheets.specs.Work.{Only}
 use Rattle.sheets.proofs.Standing.{length_over}
-use Rattle.sheets.proofs.Walks.{get_d_over}
+use Rattle.sheets.proofs.Walks.{get_or_over}
 
 -- what changed within a part changed within a larger one
 pub only_within : {C : Type 0} (z : C) (p h P H : ℕ) (cs ds : List C) → Only p h cs ds → p + h ≤ length cs → P ≤ p → p + h ≤ P + H → Within P H cs ds
@@ -15,7 +15,7 @@ only_within {C} z p h P H cs ds (s, (l, e)) b lo hi =
       front = ap (take P) e ∙ take-append-le P (take p cs) _ (let k = length-take-le p cs (omega arith) in omega arith) ∙ take-take P p cs lo;
       back =
           ext_get_or z (drop (P + H) ds) (drop (P + H) cs) (simp length-drop (omega arith))
-          (λ i k. get_or-drop (P + H) ds i z ∙ ap (λ (x : List C). get_or x (P + H + i) z) e ∙ get_d_over cs s p (P + H + i) z (omega arith) (inr (omega arith)) ∙ sym (get_or-drop (P + H) cs i z));
+          (λ i k. get_or-drop (P + H) ds i z ∙ ap (λ (x : List C). get_or x (P + H + i) z) e ∙ get_or_over cs s p (P + H + i) z (omega arith) (inr (omega arith)) ∙ sym (get_or-drop (P + H) cs i z));
     }
 
 pub within_trans : {C : Type 0} {P H : ℕ} {cs ds es : List C} → Within P H cs ds → Within P H ds es → Within P H cs es

@@ -17,7 +17,7 @@ module _ {A : Type 0} (test : A → Bool) (d : A) where
   First xs j = (j < length xs) × (test (get_or xs j d) ≡ true) × AllByRecursion (λ x. test x ≡ false) (take j xs)
 
   found : (i : ℕ) (xs : List A) (k : ℕ) → position_from test i xs ≡ Some k → (j : ℕ) × (i + j ≡ k) × First xs j
-  found i [] k e = let z : ◌≡◌ {A = ℕ} 0 1 = cc in absurd (omega arith)
+  found i [] k e = absurd cc
   found i (x ∷ xs) k e = by (test x) refl (found (i + 1) xs k) e
     where
       by : (t : Bool) → test x ≡ t → (position_from test (i + 1) xs ≡ Some k → (j : ℕ) × (i + 1 + j ≡ k) × First xs j) → cond t (Some i) (position_from test (i + 1) xs) ≡ Some k → (j : ℕ) × (i + j ≡ k) × First (x ∷ xs) j
@@ -40,7 +40,7 @@ module _ {N C : Type 0} (a : Arithmetic N C) where
     where
       by : (o : Option N) → a.read w ≡ o → not (is_some o) ≡ false → Admitted a w
       by (Some x) h e = (x, h)
-      by None h e = let z : ◌≡◌ {A = Bool} true false = e in let y : ◌≡◌ {A = ℕ} 0 1 = cc in absurd (omega arith)
+      by None h e = let z : ◌≡◌ {A = Bool} true false = e in absurd cc
 
   taken_up : (w : ℤ) → Admitted a w → TakenUp w
   taken_up w (x, h) = ap (λ (o : Option N). not (is_some o)) h

@@ -8,23 +8,22 @@ use Rattle.faults.specs.declared.NumberFault.TheVariants.{Unknowns, ListNumber}
 use Rattle.faults.specs.declared.SheetFault.{SheetFault}
 use Rattle.faults.specs.declared.SheetFault.TheVariants.{Number, NoSheet, FewCells, Overflow}
 use Rattle.kinds.specs.Kind.{Arithmetic, Laws, Admitted}
-use Rattle.kinds.specs.Equation.{Equation}
+use Rattle.kinds.specs.Equation.{Equation, equation_of}
 use Rattle.plans.specs.Posting.{Outcome, taken, implied, contradicted, overflow}
 use Rattle.plans.specs.Promised.{Right}
 use Rattle.plans.specs.Sheet.{Contents, new_sheet}
 use Rattle.plans.specs.Solution.{Judgement, is_taken, is_implied, is_contradicted, Verdict as Judged, Holds}
-use Rattle.plans.proofs.NewSheet.{new_general}
+use Rattle.plans.proofs.NewSheet.{new_general, units_many}
 use Rattle.plans.proofs.Rightness.{posting_exact_lem}
 use Rattle.plans.proofs.Sizes.{Measured, Leaves, posted_leaves}
 use Rattle.sheets.specs.declared.posting.Verdict.{Verdict}
 use Rattle.sheets.specs.Cells.{main_cells, spare_cells, needed, part, held, zero_cells, contents_in, main_of, sheet_cells}
 use Rattle.sheets.specs.Clearing.{clear_answer, new_again, clear_left}
-use Rattle.sheets.specs.Law.{equation_of, StandsFor, Passes, Sound, SpareZero, RefusalsExact, PostLaw, ClearLaw, PickLaw}
-use Rattle.sheets.specs.Picking.{pick_refusal_lem, plan_in, pick_unless, words_unless, pick_answer, pick_left}
-use Rattle.sheets.specs.Posted.{answer_of_lem, main_after}
-use Rattle.sheets.specs.Sheet.{Model, in_range, natural, asked, opened_by, opened, stands, post_refusal_lem, outcome_of, sheet_after, answer_unless, after_unless, post_answer, post_left}
+use Rattle.sheets.specs.Law.{StandsFor, Passes, Sound, SpareZero, RefusalsExact, PostLaw, ClearLaw, PickLaw}
+use Rattle.sheets.specs.Picking.{pick_refusal, plan_in, pick_unless, words_unless, pick_answer, pick_left}
+use Rattle.sheets.specs.Posted.{answer_of, main_after}
+use Rattle.sheets.specs.Sheet.{Model, in_range, natural, asked, opened_by, opened, stands, post_refusal, outcome_of, sheet_after, answer_unless, after_unless, post_answer, post_left}
 use Rattle.sheets.specs.Words.{number_of, numbers_of}
-use Rattle.sheets.proofs.Fresh.{length_units}
 use Rattle.sheets.proofs.Meanings.{number_means, numbers_mean}
 use Rattle.sheets.proofs.Plans.{plan_long, plan_means}
 use Rattle.sheets.proofs.Reading.{contents_front, contents_measured, length_main, reads_back}
@@ -78,13 +77,13 @@ module _ {N C : Type 0} (a : Arithmetic N C) (laws : Laws a) where
   -- the new sheet of n unknowns
   module _ (n : ℕ) where
     new_measured : Measured n n (new_sheet a n)
-    new_measured = let g = new_general a laws n in record { fixed_length = g.fixed_length; moves_length = g.moves_length; many = length_units a n }
+    new_measured = let g = new_general a laws n in record { fixed_length = g.fixed_length; moves_length = g.moves_length; many = units_many a n }
 
     pub new_stands : (cells : List C) → Holds a n [] (contents_in a n n (sheet_cells a n (new_sheet a n) cells))
-    new_stands cells = subst (Holds a n []) (sym (reads_back a laws n n (new_sheet a n) new_measured (omega arith) cells)) (new_general a laws n)
+    new_stands cells = subst (Holds a n []) (sym (reads_back a n n (new_sheet a n) new_measured (omega arith) laws cells)) (new_general a laws n)
 
     length_new : length (main_of a n (new_sheet a n)) ≡ main_cells n
-    length_new = length_main a laws n n (new_sheet a n) new_measured (omega arith)
+    length_new = length_main a n n (new_sheet a n) new_measured (omega arith)
 
     pub new_sound : (cells : List C) → needed n ≤ length cells → (needed n ≤ length (sheet_cells a n (new_sheet a n) cells)) × AllByRecursion (Passes a) (take (needed n) (sheet_cells a n (new_sheet a n) cells))
     new_sound cells room = let M = main_of a n (new_sheet a n) in (laid_room a n M cells length_new room, laid_passes n M cells length_new room (main_passes n (new_sheet a n)))
@@ -92,17 +91,14 @@ module _ {N C : Type 0} (a : Arithmetic N C) (laws : Laws a) where
     pub new_spare : (cells : List C) → needed n ≤ length cells → part (main_cells n) (spare_cells n) (sheet_cells a n (new_sheet a n) cells) ≡ zero_cells a (spare_cells n)
     new_spare cells room = laid_spare a n (main_of a n (new_sheet a n)) cells length_new room
 
-    pub new_length : (cells : List C) → needed n ≤ length cells → length (sheet_cells a n (new_sheet a n) cells) ≡ length cells
-    new_length cells room = laid_length a n (main_of a n (new_sheet a n)) cells length_new room
-
   -- an opening that is not refused has the cells that it needs
   asked_room : (u l : ℤ) (len : ℕ) (n list : ℕ) → asked u l len ≡ Ok (n, list) → needed n ≤ len
   asked_room u l len n list e = by (in_range 1 24 u) (in_range 0 65535 l) (ltb len (needed (natural u))) refl e
     where
       by : (x y z : Bool) → ltb len (needed (natural u)) ≡ z → cond {A = Result (ℕ × ℕ) SheetFault} x (cond {A = Result (ℕ × ℕ) SheetFault} y (cond {A = Result (ℕ × ℕ) SheetFault} z (Err FewCells) (Ok (natural u, natural l))) (Err (Number ListNumber))) (Err (Number Unknowns)) ≡ Ok (n, list) → needed n ≤ len
-      by false y z h e = let q : ◌≡◌ {A = ℕ} 0 1 = cc in absurd (omega arith)
-      by true false z h e = let q : ◌≡◌ {A = ℕ} 0 1 = cc in absurd (omega arith)
-      by true true true h e = let q : ◌≡◌ {A = ℕ} 0 1 = cc in absurd (omega arith)
+      by false y z h e = absurd cc
+      by true false z h e = absurd cc
+      by true true true h e = absurd cc
       by true true false h e = let t : ◌≡◌ {A = ℕ × ℕ} (natural u, natural l) (n, list) = cc in let q : natural u ≡ n = ap (λ (x : ℕ × ℕ). x.0) t in subst (λ (i : ℕ). needed i ≤ len) q (ltb-false len (needed (natural u)) h)
 
   -- an opening
@@ -150,7 +146,7 @@ module _ {N C : Type 0} (a : Arithmetic N C) (laws : Laws a) where
       measured_less t (j, q, h) = record { fixed_length = h.fixed_length; moves_length = h.moves_length; many = h.many ∙ omega arith }
 
       length_after : (o : Outcome N) → Leaves n m.moves o → length (main_after a o n m.cells) ≡ main_cells n
-      length_after (taken t) h = length_main a laws n (m.moves - 1) t (measured_less t h) (omega arith)
+      length_after (taken t) h = length_main a n (m.moves - 1) t (measured_less t h) (omega arith)
       length_after implied h = length-take-le (main_cells n) m.cells (omega arith)
       length_after contradicted h = length-take-le (main_cells n) m.cells (omega arith)
       length_after overflow h = length-take-le (main_cells n) m.cells (omega arith)
@@ -161,15 +157,15 @@ module _ {N C : Type 0} (a : Arithmetic N C) (laws : Laws a) where
       judged : (es : List Equation) (i j : Judgement) → Judged a.modulus n es e i → Some i ≡ Some j → Judged a.modulus n es e j
       judged es i j v q = let w : i ≡ j = cc in subst (Judged a.modulus n es e) w v
 
-      outcome_law : (o : Outcome N) → ((es : List Equation) → StandsFor a m es → Right a n es e s o) → Leaves n m.moves o → PostLaw a m ws (answer_of_lem o) (sheet_after a m o)
+      outcome_law : (o : Outcome N) → ((es : List Equation) → StandsFor a m es → Right a n es e s o) → Leaves n m.moves o → PostLaw a m ws (answer_of o) (sheet_after a m o)
       outcome_law (taken t) r h = record {
         unknowns = refl;
-        in_force = λ es k. subst (Holds a n (e ∷ es)) (sym (reads_back a laws n (m.moves - 1) t (measured_less t h) (omega arith) m.cells)) (r es k).holds;
+        in_force = λ es k. subst (Holds a n (e ∷ es)) (sym (reads_back a n (m.moves - 1) t (measured_less t h) (omega arith) laws m.cells)) (r es k).holds;
         verdict = λ es k j q. judged es is_taken j (r es k).verdict q;
       }
       outcome_law implied r h = record { unknowns = refl; in_force = stays; verdict = λ es k j q. judged es is_implied j (r es k) q }
       outcome_law contradicted r h = record { unknowns = refl; in_force = stays; verdict = λ es k j q. judged es is_contradicted j (r es k) q }
-      outcome_law overflow r h = record { unknowns = refl; in_force = stays; verdict = λ es k j q. let z : ◌≡◌ {A = ℕ} 0 1 = cc in absurd (omega arith) }
+      outcome_law overflow r h = record { unknowns = refl; in_force = stays; verdict = λ es k j q. absurd cc }
 
       kept_passes : AllByRecursion (Passes a) (take (needed n) m.cells) → AllByRecursion (Passes a) (take (main_cells n) m.cells)
       kept_passes h = subst (AllByRecursion (Passes a)) (take-take (main_cells n) (needed n) m.cells (omega arith)) (All-take (Passes a) (main_cells n) (take (needed n) m.cells) h)
@@ -199,33 +195,33 @@ module _ {N C : Type 0} (a : Arithmetic N C) (laws : Laws a) where
         (numbers_mean a laws (take n ws) (All-take (SFits w32) n ws f) (All-take (Admitted a) n ws p.all))
         (number_means a laws (get_or ws n (pos 0)) (All-get_or (SFits w32) ws n (pos 0) i f) (All-get_or (Admitted a) ws n (pos 0) i p.all))
 
-    pub post_law : (post_refusal_lem a m ws ≡ None → AllByRecursion (SFits w32) ws) → PostLaw a m ws (post_answer a m ws) (post_left a m ws)
-    post_law fit = by (post_refusal_lem a m ws) refl
+    pub post_law : (post_refusal a m ws ≡ None → AllByRecursion (SFits w32) ws) → PostLaw a m ws (post_answer a m ws) (post_left a m ws)
+    post_law fit = by (post_refusal a m ws) refl
       where
-        by : (o : Option SheetFault) → post_refusal_lem a m ws ≡ o → PostLaw a m ws (answer_unless a o (outcome_of a m ws)) (after_unless a o m (outcome_of a m ws))
-        by (Some fault) q = record { unknowns = refl; in_force = λ es h. h; verdict = λ es h j k. let r = refusal_silent a m ws fault q in let z : ◌≡◌ {A = ℕ} 0 1 = cc in absurd (omega arith) }
+        by : (o : Option SheetFault) → post_refusal a m ws ≡ o → PostLaw a m ws (answer_unless a o (outcome_of a m ws)) (after_unless a o m (outcome_of a m ws))
+        by (Some fault) q = record { unknowns = refl; in_force = λ es h. h; verdict = λ es h j k. let r = refusal_silent a m ws fault q in absurd cc }
         by None q =
             let p = postable a m ws q in
             let room = (standing m p.stand).room in
             outcome_law room (outcome_of a m ws) (right p (fit q)) (leaves room)
 
     pub post_sound : Sound a m → Sound a (post_left a m ws)
-    post_sound h = by (post_refusal_lem a m ws) refl
+    post_sound h = by (post_refusal a m ws) refl
       where
-        by : (o : Option SheetFault) → post_refusal_lem a m ws ≡ o → Sound a (after_unless a o m (outcome_of a m ws))
+        by : (o : Option SheetFault) → post_refusal a m ws ≡ o → Sound a (after_unless a o m (outcome_of a m ws))
         by (Some fault) q = h
         by None q = let room = (standing m (postable a m ws q).stand).room in outcome_sound room (outcome_of a m ws) (leaves room) h
 
     -- a posting that touches a cell leaves the spare ones at zero
-    pub post_wipes : post_refusal_lem a m ws ≡ None → SpareZero a (post_left a m ws)
+    pub post_wipes : post_refusal a m ws ≡ None → SpareZero a (post_left a m ws)
     post_wipes q =
         let room = (standing m (postable a m ws q).stand).room in
         subst (λ (o : Option SheetFault). SpareZero a (after_unless a o m (outcome_of a m ws))) (sym q) (outcome_spare room (outcome_of a m ws) (leaves room))
 
     pub post_spare : SpareZero a m → SpareZero a (post_left a m ws)
-    post_spare h = by (post_refusal_lem a m ws) refl
+    post_spare h = by (post_refusal a m ws) refl
       where
-        by : (o : Option SheetFault) → post_refusal_lem a m ws ≡ o → SpareZero a (after_unless a o m (outcome_of a m ws))
+        by : (o : Option SheetFault) → post_refusal a m ws ≡ o → SpareZero a (after_unless a o m (outcome_of a m ws))
         by (Some fault) q = h
         by None q = let room = (standing m (postable a m ws q).stand).room in outcome_spare room (outcome_of a m ws) (leaves room)
 
@@ -265,12 +261,12 @@ module _ {N C : Type 0} (a : Arithmetic N C) (laws : Laws a) where
 
     -- of a refusal nothing is said
     refused_law : (fault : SheetFault) (plan : List ℤ) → PickLaw a m choice (Err fault) plan
-    refused_law fault plan = record { is_made = λ e. let z : ◌≡◌ {A = ℕ} 0 1 = cc in absurd (omega arith); meets = λ e. let z : ◌≡◌ {A = ℕ} 0 1 = cc in absurd (omega arith) }
+    refused_law fault plan = record { is_made = λ e. absurd cc; meets = λ e. absurd cc }
 
-    pub pick_law : (pick_refusal_lem a m choice (length words) ≡ None → AllByRecursion (SFits w32) choice) → PickLaw a m choice (pick_answer a m choice words) (pick_left a m choice words)
-    pick_law fit = by (pick_refusal_lem a m choice (length words)) (plan_in a m choice) refl refl
+    pub pick_law : (pick_refusal a m choice (length words) ≡ None → AllByRecursion (SFits w32) choice) → PickLaw a m choice (pick_answer a m choice words) (pick_left a m choice words)
+    pick_law fit = by (pick_refusal a m choice (length words)) (plan_in a m choice) refl refl
       where
-        by : (o : Option SheetFault) (p : Option (List N)) → pick_refusal_lem a m choice (length words) ≡ o → plan_in a m choice ≡ p → PickLaw a m choice (pick_unless a o p) (words_unless a o p words)
+        by : (o : Option SheetFault) (p : Option (List N)) → pick_refusal a m choice (length words) ≡ o → plan_in a m choice ≡ p → PickLaw a m choice (pick_unless a o p) (words_unless a o p words)
         by (Some fault) p q e = refused_law fault words
         by None None q e = refused_law Overflow words
         by None (Some xs) q e = plan_law (pickable a m choice (length words) q) (fit q) xs e
@@ -281,9 +277,9 @@ pub record PostKeeps {N C : Type 0} (a : Arithmetic N C) (m : Model C) (ws : Lis
   pub law : PostLaw a m ws r after
   pub sound : Sound a m → Sound a after
   pub spare : SpareZero a m → SpareZero a after
-  pub wiped : post_refusal_lem a m ws ≡ None → SpareZero a after
+  pub wiped : post_refusal a m ws ≡ None → SpareZero a after
 
-pub post_keeps : {N C : Type 0} (a : Arithmetic N C) (laws : Laws a) (m : Model C) → m.moves ≤ m.unknowns → (ws : List ℤ) → (post_refusal_lem a m ws ≡ None → AllByRecursion (SFits w32) ws)
+pub post_keeps : {N C : Type 0} (a : Arithmetic N C) (laws : Laws a) (m : Model C) → m.moves ≤ m.unknowns → (ws : List ℤ) → (post_refusal a m ws ≡ None → AllByRecursion (SFits w32) ws)
     → (r : Result Verdict SheetFault) (after : Model C) → r ≡ post_answer a m ws → after ≡ post_left a m ws → PostKeeps a m ws r after
 post_keeps a laws m few ws fit r after e f =
     subst₂ (PostKeeps a m ws) (sym e) (sym f)

@@ -1,31 +1,30 @@
 -- What a posting comes to, from its steps.
-use Rattle.std.proofs.Common.{◌≡◌, ℕ, suc, ◌+◌, ◌-◌, ◌*◌, ◌<◌, ◌≤◌, true, false, cond, eqb, List, ◌++◌, map, length, get_or, take, drop, Some, None, Ok, Result, sym, refl, ap, ◌∙◌, subst, inr, add-mul, zero-add, mul-one, mul-add, arith}
-use Rattle.std.specs.List.{flat_map}
-use Rattle.std.proofs.lemmas.List.{length-append, length-map, length-replicate, take_at, drop_at, drop-drop, get_or-take, ext_get_or}
-use Rattle.std.proofs.lemmas.Bool.{cond-true, cond-false}
+use Rattle.std.proofs.Common.{◌≡◌, ℕ, suc, ◌+◌, ◌-◌, ◌*◌, ◌<◌, ◌≤◌, List, [], ◌++◌, map, length, get_or, take, drop, Some, None, Ok, Result, sym, refl, ap, ◌∙◌, subst, inr, zero-add, mul-one, mul-add, arith}
+use Rattle.std.proofs.ByRecursion.{All-from_get_or}
+use Rattle.std.proofs.lemmas.List.{length-replicate, take_at, drop_at, drop-drop, get_or-take}
 use Rattle.faults.specs.declared.SheetFault.{SheetFault}
 use Rattle.kinds.specs.Kind.{Arithmetic}
 use Rattle.lines.specs.Page.{over}
-use Rattle.plans.specs.Posting.{Column, Outcome, taken, implied, contradicted, overflow, topped, column_B, normalised, rounds, total_size, finish, worked, flat, prepared, posted, without}
+use Rattle.plans.specs.Posting.{Column, Outcome, taken, contradicted, overflow, normalised, rounds, total_size, finish, worked, without}
 use Rattle.plans.specs.Sheet.{Contents}
 use Rattle.sheets.specs.declared.posting.Verdict.{Verdict}
 use Rattle.sheets.specs.declared.posting.Verdict.TheVariants.{Taken}
-use Rattle.sheets.specs.Cells.{main_cells, spare_cells, needed, part, number, numbers, number_at, held, zero_cells, main_of, moves_at, contents_in}
+use Rattle.sheets.specs.Cells.{main_cells, spare_cells, needed, part, number, numbers, number_at, zero_cells, main_of}
 use Rattle.sheets.specs.Combining.{Within}
-use Rattle.sheets.specs.Posted.{answer_of_lem, main_after, cells_after, Settled}
+use Rattle.sheets.specs.Posted.{answer_of, main_after, cells_after, Settled}
 use Rattle.sheets.specs.Work.{Only, column_at, columns_at, work_at, work_cells, rounds_at, left_at}
-use Rattle.sheets.proofs.Closing.{length_moves, length_L}
+use Rattle.sheets.proofs.Closing.{each_left, length_L}
 use Rattle.sheets.proofs.Laying.{part_before}
 use Rattle.sheets.proofs.Limits.{only_within, within_wider, within_trans}
 use Rattle.sheets.proofs.Numbers.{length_numbers_part}
 use Rattle.sheets.proofs.Places.{column_in}
-use Rattle.sheets.proofs.Rounding.{column_of, length_columns}
-use Rattle.sheets.proofs.Standing.{length_over, part_other}
-use Rattle.sheets.proofs.Walks.{get_d_over}
+use Rattle.sheets.proofs.Reading.{length_main}
+use Rattle.sheets.proofs.Rounding.{columns_kept}
+use Rattle.sheets.proofs.Standing.{length_over}
 
 module _ {N C : Type 0} (a : Arithmetic N C) (n p k : ℕ) (place : p ≡ n * (n + 1)) where
   -- an outcome that leaves the main cells
-  pub settled_kept : (o : Outcome N) (r : Result Verdict SheetFault) (cs ds : List C) → r ≡ answer_of_lem o → main_after a o n cs ≡ take (main_cells n) cs → Within p (work_cells a n k) cs ds → Settled a o n p k cs r ds
+  pub settled_kept : (o : Outcome N) (r : Result Verdict SheetFault) (cs ds : List C) → r ≡ answer_of o → main_after a o n cs ≡ take (main_cells n) cs → Within p (work_cells a n k) cs ds → Settled a o n p k cs r ds
   settled_kept o r cs ds e m w =
       record {
         answer = e;
@@ -62,42 +61,23 @@ length_left a n p k l cs place few room hl =
     let m = mul-add n n 1 in
     let o = mul-one n in
     let main : n + n * n ≤ p = omega arith in
-    let F = numbers a (part (p + 1) n cs) in
-    let J = flat_map (λ m. m) (left_at a cs n p k l).moves in
-    let lf = length_numbers_part a cs (p + 1) n (omega arith) in
-    let lj : length J ≡ (k - 1) * n = sym (length-map J a.to_cell) ∙ length_moves a n p k l cs main few room hl in
-    let ll = length_L a n p k l cs main few room hl in
-    let e : (k - 1) + (n - (k - 1)) ≡ n = omega arith in
-    let f = ap (λ (x : ℕ). x * n) e in
-    let g = add-mul (k - 1) (n - (k - 1)) n in
-    let q : (n - length (left_at a cs n p k l).moves) * n ≡ (n - (k - 1)) * n = ap (λ (x : ℕ). (n - x) * n) ll in
-    length-append (held a (F ++ J)) (zero_cells a ((n - length (left_at a cs n p k l).moves) * n))
-    ∙ (let x = length-map (F ++ J) a.to_cell in let y = length-append F J in let w = length-replicate ((n - length (left_at a cs n p k l).moves) * n) (a.to_cell a.zero) in omega arith)
-
--- a change of B's entries leaves the moves' columns
-columns_after : {N C : Type 0} (a : Arithmetic N C) (n p k : ℕ) (es fs : List C) → Only (p + 1) n es fs → p + ((n + 1) + k * (n + 1)) ≤ length es → columns_at a fs n (p + (n + 1)) k ≡ columns_at a es n (p + (n + 1)) k
-columns_after {N} {C} a n p k es fs (s, (l, e)) room =
-    let z = a.to_cell a.zero in
-    let d = column_at a es n 0 in
-    let first = p + (n + 1) in
-    ext_get_or d (columns_at a fs n first k) (columns_at a es n first k) (length_columns a n first k fs ∙ sym (length_columns a n first k es))
-    (λ j b.
-    let jk : j < k = let m = length_columns a n first k fs in omega arith in
-    let c = column_in j k (n + 1) jk in
-    let q = first + j * (n + 1) in
-    let t : number_at a fs q ≡ number_at a es q = ap (number a) (ap (λ (x : List C). get_or x q z) e ∙ get_d_over es s (p + 1) q z (omega arith) (inr (omega arith))) in
-    let u : numbers a (part (q + 1) n fs) ≡ numbers a (part (q + 1) n es) = ap (numbers a) (ap (part (q + 1) n) e ∙ part_other z es s (p + 1) (q + 1) n (omega arith) (omega arith) (inr (omega arith))) in
-    let v : column_at a fs n q ≡ column_at a es n q = λ i. record { top = t i; low = u i } in
-    column_of a n first k fs j d jk ∙ v ∙ sym (column_of a n first k es j d jk))
+    let s = left_at a cs n p k l in
+    length_main a n (k - 1) s
+    (record {
+      fixed_length = length_numbers_part a cs (p + 1) n (omega arith);
+      moves_length = All-from_get_or (λ v. length v ≡ n) s.moves [] (each_left a n p k l cs main few room hl);
+      many = length_L a n p k l cs main few room hl;
+    })
+    (omega arith)
 
 module _ {N C : Type 0} (a : Arithmetic N C) (n p k : ℕ) (cs : List C) (place : p ≡ n * (n + 1)) (few : k ≤ n) (room : p + ((n + 1) + k * (n + 1)) ≤ length cs) where
   abbrev O : Outcome N
   O = worked a (column_at a cs n p) (normalised a (columns_at a cs n (p + (n + 1)) k))
 
-  pub normal_fails : (r : Result Verdict SheetFault) (ds : List C) → r ≡ answer_of_lem {N = N} overflow → normalised a (columns_at a cs n (p + (n + 1)) k) ≡ None → Within (p + (n + 1)) (k * (n + 1)) cs ds → Settled a O n p k cs r ds
+  pub normal_fails : (r : Result Verdict SheetFault) (ds : List C) → r ≡ answer_of {N = N} overflow → normalised a (columns_at a cs n (p + (n + 1)) k) ≡ None → Within (p + (n + 1)) (k * (n + 1)) cs ds → Settled a O n p k cs r ds
   normal_fails r ds er e w =
       let o : O ≡ overflow = ap (worked a (column_at a cs n p)) e in
-      settled_kept a n p k place O r cs ds (er ∙ ap answer_of_lem (sym o)) (ap (λ (x : Outcome N). main_after a x n cs) o) (within_wider w (omega arith) (omega arith))
+      settled_kept a n p k place O r cs ds (er ∙ ap answer_of (sym o)) (ap (λ (x : Outcome N). main_after a x n cs) o) (within_wider w (omega arith) (omega arith))
 
   module _ (ds : List C) (e1 : normalised a (columns_at a cs n (p + (n + 1)) k) ≡ Some (columns_at a ds n (p + (n + 1)) k)) (w1 : Within (p + (n + 1)) (k * (n + 1)) cs ds) where
     B_same : column_at a ds n p ≡ column_at a cs n p
@@ -116,10 +96,10 @@ module _ {N C : Type 0} (a : Arithmetic N C) (n p k : ℕ) (cs : List C) (place 
     wide1 : Within p (work_cells a n k) cs ds
     wide1 = within_wider w1 (omega arith) (omega arith)
 
-    pub rounds_fail : (r : Result Verdict SheetFault) (es : List C) → r ≡ answer_of_lem {N = N} overflow → rounds_at a ds n p k ≡ None → Within p (work_cells a n k) ds es → Settled a O n p k cs r es
+    pub rounds_fail : (r : Result Verdict SheetFault) (es : List C) → r ≡ answer_of {N = N} overflow → rounds_at a ds n p k ≡ None → Within p (work_cells a n k) ds es → Settled a O n p k cs r es
     rounds_fail r es er e w =
         let o : O ≡ overflow = after_normal ∙ ap (finish a) e in
-        settled_kept a n p k place O r cs es (er ∙ ap answer_of_lem (sym o)) (ap (λ (x : Outcome N). main_after a x n cs) o) (within_trans wide1 w)
+        settled_kept a n p k place O r cs es (er ∙ ap answer_of (sym o)) (ap (λ (x : Outcome N). main_after a x n cs) o) (within_trans wide1 w)
 
     module _ (l : ℕ) (es : List C) (e2 : rounds_at a ds n p k ≡ Some (l, work_at a es n p k)) (hl : l < k) (w2 : Within p (work_cells a n k) ds es) where
       after_rounds : O ≡ finish a (Some (l, work_at a es n p k))
@@ -131,16 +111,16 @@ module _ {N C : Type 0} (a : Arithmetic N C) (n p k : ℕ) (cs : List C) (place 
       pub length_2 : length es ≡ length cs
       length_2 = wide2.len
 
-      pub finish_fails : (r : Result Verdict SheetFault) (fs : List C) → r ≡ answer_of_lem {N = N} overflow → finish a (Some (l, work_at a es n p k)) ≡ overflow → Within p (work_cells a n k) es fs → Settled a O n p k cs r fs
+      pub finish_fails : (r : Result Verdict SheetFault) (fs : List C) → r ≡ answer_of {N = N} overflow → finish a (Some (l, work_at a es n p k)) ≡ overflow → Within p (work_cells a n k) es fs → Settled a O n p k cs r fs
       finish_fails r fs er e w =
           let o : O ≡ overflow = after_rounds ∙ e in
-          settled_kept a n p k place O r cs fs (er ∙ ap answer_of_lem (sym o)) (ap (λ (x : Outcome N). main_after a x n cs) o) (within_trans wide2 w)
+          settled_kept a n p k place O r cs fs (er ∙ ap answer_of (sym o)) (ap (λ (x : Outcome N). main_after a x n cs) o) (within_trans wide2 w)
 
-      pub finish_against : (fs : List C) → finish a (Some (l, work_at a es n p k)) ≡ contradicted → fs ≡ es → Settled a O n p k cs (answer_of_lem {N = N} contradicted) fs
+      pub finish_against : (fs : List C) → finish a (Some (l, work_at a es n p k)) ≡ contradicted → fs ≡ es → Settled a O n p k cs (answer_of {N = N} contradicted) fs
       finish_against fs e s =
           let o : O ≡ contradicted = after_rounds ∙ e in
           let w : Within p (work_cells a n k) cs fs = subst (Within p (work_cells a n k) cs) (sym s) wide2 in
-          settled_kept a n p k place O (answer_of_lem {N = N} contradicted) cs fs (ap answer_of_lem (sym o)) (ap (λ (x : Outcome N). main_after a x n cs) o) w
+          settled_kept a n p k place O (answer_of {N = N} contradicted) cs fs (ap answer_of (sym o)) (ap (λ (x : Outcome N). main_after a x n cs) o) w
 
       -- finish took the equation, and the moves' columns are those before it
       pub finish_takes : (fs gs : List C)
@@ -150,41 +130,13 @@ module _ {N C : Type 0} (a : Arithmetic N C) (n p k : ℕ) (cs : List C) (place 
           let z = a.to_cell a.zero in
           let le = length_2 in
           let m : left_at a fs n p k l ≡ record { fixed = numbers a (part (p + 1) n fs); moves = map (λ c. c.low) (without (columns_at a es n (p + (n + 1)) k) l) }
-          = ap (λ (x : List (Column N)). record { fixed = numbers a (part (p + 1) n fs); moves = map (λ c. c.low) (without x l) }) (columns_after a n p k es fs o (omega arith)) in
+          = ap (λ (x : List (Column N)). record { fixed = numbers a (part (p + 1) n fs); moves = map (λ c. c.low) (without x l) }) (columns_kept a n (p + (n + 1)) k es fs (omega arith) (p + 1) n o (omega arith) (inr (omega arith))) in
           let w3 : Within p (work_cells a n k) es fs = only_within z (p + 1) n p (work_cells a n k) es fs o (omega arith) (omega arith) (omega arith) in
           let q : O ≡ taken (left_at a fs n p k l) = after_rounds ∙ e ∙ ap taken (sym m) in
           let w : Within p (work_cells a n k) cs fs = within_trans wide2 w3 in
           let lf = w.len in
           subst (λ (x : Outcome N). Settled a x n p k cs (Ok Taken) gs) (sym q)
           (settled_taken a n p k place (left_at a fs n p k l) cs fs gs w (length_left a n p k l fs place few (omega arith) hl) (omega arith) g)
-
-module _ {N C : Type 0} (a : Arithmetic N C) (es : List N) (right : N) (n p k : ℕ) (cs : List C) (place : p ≡ n * (n + 1)) (ds : List C) (w : Within p (work_cells a n k) cs ds) where
-  abbrev P : Outcome N
-  P = posted a (contents_in a n k cs) es right
-
-  module _ (et : topped a es (moves_at a cs n k) ≡ Some (columns_at a ds n (p + (n + 1)) k)) (eb : column_B a es right (numbers a (take n cs)) ≡ Some (column_at a ds n p)) where
-    abbrev T : List (Column N)
-    T = columns_at a ds n (p + (n + 1)) k
-
-    abbrev B : Column N
-    B = column_at a ds n p
-
-    after_prepare : P ≡ flat a T B (worked a B (normalised a T))
-    after_prepare = λ i. prepared a (et i) (eb i)
-
-    module _ (z : eqb (total_size a T) 0 ≡ true) where
-      when_flat : P ≡ cond (eqb (a.size B.top) 0) implied contradicted
-      when_flat = after_prepare ∙ cond-true (eqb (total_size a T) 0) (cond (eqb (a.size B.top) 0) implied contradicted) (worked a B (normalised a T)) z
-
-      pub flat_implied : eqb (a.size B.top) 0 ≡ true → Settled a P n p k cs (answer_of_lem {N = N} implied) ds
-      flat_implied e =
-          let o : P ≡ implied = when_flat ∙ cond-true (eqb (a.size B.top) 0) implied contradicted e in
-          settled_kept a n p k place P (answer_of_lem {N = N} implied) cs ds (ap answer_of_lem (sym o)) (ap (λ (x : Outcome N). main_after a x n cs) o) w
-
-      pub flat_contradicted : eqb (a.size B.top) 0 ≡ false → Settled a P n p k cs (answer_of_lem {N = N} contradicted) ds
-      flat_contradicted e =
-          let o : P ≡ contradicted = when_flat ∙ cond-false (eqb (a.size B.top) 0) implied contradicted e in
-          settled_kept a n p k place P (answer_of_lem {N = N} contradicted) cs ds (ap answer_of_lem (sym o)) (ap (λ (x : Outcome N). main_after a x n cs) o) w
 
 -- the spare cells wiped at the end
 pub all_cells : {N C : Type 0} (a : Arithmetic N C) (o : Outcome N) (n p k : ℕ) (cs ds es : List C) (r : Result Verdict SheetFault) → p ≡ n * (n + 1) → k ≤ n → p + spare_cells n ≤ length cs → Settled a o n p k cs r ds → es ≡ over ds p (zero_cells a (spare_cells n)) → es ≡ cells_after a o n cs

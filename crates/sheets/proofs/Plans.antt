@@ -1,6 +1,6 @@
 -- The plan of a choice: gathered unknown by unknown, and what it means.
 use Rattle.std.proofs.Common.{◌≡◌, ℕ, zero, suc, ◌+◌, ◌*◌, ◌<◌, ◌≤◌, List, [], ◌∷◌, ◌++◌, map, length, get_or, take, drop, set, ℤ, pos, ◌+ℤ◌, ◌*ℤ◌, Some, None, Option, sym, refl, ap, ◌∙◌, subst, arith}
-use Rattle.std.specs.List.{range_with_len as counting}
+use Rattle.std.specs.List.{range_with_len}
 use Rattle.std.proofs.lemmas.List.FromFn.{length-map-range_with_len, get_or-map-range_with_len, map-range_with_len_more}
 use Rattle.std.proofs.lemmas.List.{length-map, length_push, length-set, map-append, take_more_set, get_or-map}
 use Rattle.kinds.specs.Kind.{Arithmetic, Laws, Same}
@@ -13,7 +13,7 @@ use Rattle.plans.specs.Solution.{SameLists, ended, also, plus, made, Sized}
 use Rattle.plans.proofs.SameLists.{lists_refl}
 use Rattle.plans.proofs.Sizes.{Measured}
 use Rattle.plans.proofs.Stored.{meant, running_means, sized_meant}
-use Rattle.plans.proofs.Vectors.{plus_length, dot_same}
+use Rattle.plans.proofs.Vectors.{plus_length, made_length, dot_same}
 use Rattle.sheets.specs.Cells.{number_at, move_at, moves_at, contents_in}
 use Rattle.sheets.specs.Picking.{collected, entries, picked, plan_of}
 use Rattle.sheets.proofs.Numbers.{number_of_part, running_more, running_end}
@@ -27,8 +27,8 @@ module _ {X : Type 0} where
     where
       by : (p : Option X) (s : Option (List X)) → collected os ≡ s → then p (λ y. then s (λ ys. Some (y ∷ ys))) ≡ Some xs → ((ys : List X) → collected os ≡ Some ys → collected (os ++ o ∷ []) ≡ Some (ys ++ x ∷ []))
           → then p (λ y. then (collected (os ++ o ∷ [])) (λ ys. Some (y ∷ ys))) ≡ Some (xs ++ x ∷ [])
-      by None s h e rest = let z : ◌≡◌ {A = ℕ} 0 1 = cc in absurd (omega arith)
-      by (Some y) None h e rest = let z : ◌≡◌ {A = ℕ} 0 1 = cc in absurd (omega arith)
+      by None s h e rest = absurd cc
+      by (Some y) None h e rest = absurd cc
       by (Some y) (Some ys) h e rest = let z : y ∷ ys ≡ xs = cc in ap (λ (s : Option (List X)). then s (λ zs. Some (y ∷ zs))) (rest ys h) ∙ ap (λ (t : List X). Some (t ++ x ∷ [])) z
 
   collected_none : (os : List (Option X)) (i : ℕ) → i < length os → get_or os i None ≡ None → collected os ≡ None
@@ -50,8 +50,8 @@ module _ {X : Type 0} where
   gathered (o ∷ os) xs e = by o (collected os) refl e (gathered os)
     where
       by : (p : Option X) (s : Option (List X)) → collected os ≡ s → then p (λ y. then s (λ ys. Some (y ∷ ys))) ≡ Some xs → ((ys : List X) → collected os ≡ Some ys → Gathered os ys) → Gathered (p ∷ os) xs
-      by None s h e rest = let z : ◌≡◌ {A = ℕ} 0 1 = cc in absurd (omega arith)
-      by (Some y) None h e rest = let z : ◌≡◌ {A = ℕ} 0 1 = cc in absurd (omega arith)
+      by None s h e rest = absurd cc
+      by (Some y) None h e rest = absurd cc
       by (Some y) (Some ys) h e rest = let z : y ∷ ys ≡ xs = cc in subst (Gathered (Some y ∷ os)) z (record { long = ap suc (rest ys h).long; each = at (rest ys h) })
         where
           at : Gathered os ys → (i : ℕ) (d : X) → i < length (Some y ∷ os) → get_or (Some y ∷ os) i None ≡ Some (get_or (y ∷ ys) i d)
@@ -64,11 +64,6 @@ plus_at [] y v i l h = absurd (omega arith)
 plus_at (x ∷ u) y [] i l h = absurd (omega arith)
 plus_at (x ∷ u) y (z ∷ v) zero l h = refl
 plus_at (x ∷ u) y (z ∷ v) (suc i) l h = plus_at u y v i (omega arith) (omega arith)
-
-made_long : (u : List ℤ) (vs : List (List ℤ)) (ys : List ℤ) → length (made u vs ys) ≡ length u
-made_long u [] ys = refl
-made_long u (v ∷ vs) [] = refl
-made_long u (v ∷ vs) (y ∷ ys) = made_long (plus u y v) vs ys ∙ plus_length u y v
 
 regroup : (x y z d : ℤ) → x +ℤ y *ℤ z +ℤ d ≡ x +ℤ (z *ℤ y +ℤ d)
 regroup x y z d = simp ring
@@ -101,7 +96,7 @@ module _ {N C : Type 0} (a : Arithmetic N C) where
       λ j. e j ∷ r j
 
   pub plan_long : (n : ℕ) (s : Contents N) (choice xs : List N) → plan_of a n s choice ≡ Some xs → length xs ≡ n
-  plan_long n s choice xs e = (gathered (map (picked a s choice) (counting 0 n)) xs e).long ∙ length-map-range_with_len (picked a s choice) 0 n
+  plan_long n s choice xs e = (gathered (map (picked a s choice) (range_with_len 0 n)) xs e).long ∙ length-map-range_with_len (picked a s choice) 0 n
 
   module _ (laws : Laws a) (n k : ℕ) (s : Contents N) (h : Measured n k s) (choice : List N) (ws : List ℤ) (same : SameLists a.modulus (meant a choice) ws) (many : length ws ≡ k) where
     abbrev plan_made : List ℤ
@@ -122,12 +117,12 @@ module _ {N C : Type 0} (a : Arithmetic N C) where
     -- the words of the plan are the plan that the choice makes
     pub plan_means : (xs : List N) → plan_of a n s choice ≡ Some xs → SameLists a.modulus (map a.write xs) plan_made
     plan_means xs e =
-        let g = gathered (map (picked a s choice) (counting 0 n)) xs e in
+        let g = gathered (map (picked a s choice) (range_with_len 0 n)) xs e in
         let lc = length-map-range_with_len (picked a s choice) 0 n in
         let lx = plan_long n s choice xs e in
         let lw = length-map xs a.write in
         let lf : length (meant a s.fixed) ≡ n = length-map s.fixed a.means ∙ h.fixed_length in
-        let ld = made_long (meant a s.fixed) (map (meant a) s.moves) ws in
+        let ld = made_length (meant a s.fixed) (map (meant a) s.moves) ws in
         same_by (map a.write xs) plan_made (lw ∙ lx ∙ sym (ld ∙ lf))
         (λ i b.
         let ix : i < length xs = omega (arith, b, lw) in
@@ -177,12 +172,12 @@ module _ {N C : Type 0} (a : Arithmetic N C) (s : Contents N) (choice : List N) 
   fills_more words i x w h f e ew = record {
     ys = f.ys ++ x ∷ [];
     long = length_push f.ys x ∙ ap (λ (j : ℕ). j + 1) f.long;
-    came = ap collected (map-range_with_len_more (picked a s choice) 0 i i (omega arith)) ∙ collected_push (map (picked a s choice) (counting 0 i)) f.ys (picked a s choice i) x f.came (sym e);
+    came = ap collected (map-range_with_len_more (picked a s choice) 0 i i (omega arith)) ∙ collected_push (map (picked a s choice) (range_with_len 0 i)) f.ys (picked a s choice i) x f.came (sym e);
     written = take_more_set words i w (let l = f.all in omega arith) ∙ (λ j. f.written j ++ ew j ∷ []) ∙ sym (map-append a.write f.ys (x ∷ []));
     all = length-set words i w ∙ f.all;
   }
 
   pub fills_none : (i : ℕ) → i < n → None ≡ picked a s choice i → plan_of a n s choice ≡ None
   fills_none i h e =
-      collected_none (map (picked a s choice) (counting 0 n)) i (let l = length-map-range_with_len (picked a s choice) 0 n in omega arith)
+      collected_none (map (picked a s choice) (range_with_len 0 n)) i (let l = length-map-range_with_len (picked a s choice) 0 n in omega arith)
       (get_or-map-range_with_len (picked a s choice) 0 n i i None h (omega arith) ∙ sym e)

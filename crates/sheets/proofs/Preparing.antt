@@ -28,7 +28,7 @@ module _ {N C : Type 0} (a : Arithmetic N C) (cs : List N) (right : N) (n p k : 
   prepared es s t et e1 e2 (c, o) =
       let le = w.len in
       let z = a.to_cell a.zero in
-      let T : columns_at a es n (p + (n + 1)) k ≡ columns_at a ds n (p + (n + 1)) k = columns_kept a n (p + (n + 1)) k ds es (omega arith) p o (omega arith) in (
+      let T : columns_at a es n (p + (n + 1)) k ≡ columns_at a ds n (p + (n + 1)) k = columns_kept a n (p + (n + 1)) k ds es (omega arith) p (n + 1) o (omega arith) (inr (omega arith)) in (
         et ∙ ap Some (sym T),
         ap (λ (x : Option N). then x (λ t. Some (record { top = t; low = numbers a (take n start) }))) (sym (λ i. running a (e1 i) cs (fixed_same i)) ∙ e2)
             ∙ ap Some (sym (c ∙ ap (λ (x : List N). record { top = t; low = x }) fixed_same)),

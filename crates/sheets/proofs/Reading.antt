@@ -91,7 +91,7 @@ module _ {N C : Type 0} (a : Arithmetic N C) (n k : ℕ) where
         many = length_moves_at cells;
       }
 
-module _ {N C : Type 0} (a : Arithmetic N C) (laws : Laws a) (n k : ℕ) (s : Contents N) (h : Measured n k s) (few : k ≤ n) where
+module _ {N C : Type 0} (a : Arithmetic N C) (n k : ℕ) (s : Contents N) (h : Measured n k s) (few : k ≤ n) where
   each_long : (j : ℕ) → j < length s.moves → length (get_or s.moves j []) ≡ n
   each_long j b = All-get_or (λ v. length v ≡ n) s.moves j [] b h.moves_length
 
@@ -113,8 +113,8 @@ module _ {N C : Type 0} (a : Arithmetic N C) (laws : Laws a) (n k : ℕ) (s : Co
       ∙ (let x = length-map (F ++ J) a.to_cell in let y = length-append F J in let w = length-replicate ((n - length s.moves) * n) (a.to_cell a.zero) in omega arith)
 
   -- the sheet that was written is read back
-  pub reads_back : (cells : List C) → contents_in a n k (sheet_cells a n s cells) ≡ s
-  reads_back cells =
+  pub reads_back : Laws a → (cells : List C) → contents_in a n k (sheet_cells a n s cells) ≡ s
+  reads_back laws cells =
       let F = s.fixed in
       let J = flat_map (λ m. m) s.moves in
       let Z = zero_cells a ((n - length s.moves) * n) in

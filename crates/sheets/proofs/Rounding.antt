@@ -11,14 +11,14 @@ use Rattle.sheets.specs.Work.{Only, column_at, columns_at, work_at, CameAt, Work
 use Rattle.sheets.proofs.Limits.{only_within, within_wider, within_trans}
 use Rattle.sheets.proofs.Places.{column_in}
 use Rattle.sheets.proofs.Standing.{part_other}
-use Rattle.sheets.proofs.Walks.{get_d_over}
+use Rattle.sheets.proofs.Walks.{get_or_over}
 
 module _ {N C : Type 0} (a : Arithmetic N C) (n : ℕ) where
-  -- a column elsewhere is left
-  pub column_other : (cs ds : List C) (p q : ℕ) → Only p (n + 1) cs ds → p + (n + 1) ≤ length cs → q + (n + 1) ≤ length cs → (q + (n + 1) ≤ p) ⊎ (p + (n + 1) ≤ q) → column_at a ds n q ≡ column_at a cs n q
-  column_other cs ds p q (s, (l, e)) hp hq o =
+  -- a change elsewhere leaves a column
+  pub column_other : (cs ds : List C) (p h q : ℕ) → Only p h cs ds → p + h ≤ length cs → q + (n + 1) ≤ length cs → (q + (n + 1) ≤ p) ⊎ (p + h ≤ q) → column_at a ds n q ≡ column_at a cs n q
+  column_other cs ds p h q (s, (l, e)) hp hq o =
       let z = a.to_cell a.zero in
-      let t : number_at a ds q ≡ number_at a cs q = ap (number a) (ap (λ (x : List C). get_or x q z) e ∙ get_d_over cs s p q z (omega arith) (⊎_elim (λ b. inl (omega arith)) (λ b. inr (omega arith)) o)) in
+      let t : number_at a ds q ≡ number_at a cs q = ap (number a) (ap (λ (x : List C). get_or x q z) e ∙ get_or_over cs s p q z (omega arith) (⊎_elim (λ b. inl (omega arith)) (λ b. inr (omega arith)) o)) in
       let u : numbers a (part (q + 1) n ds) ≡ numbers a (part (q + 1) n cs) = ap (numbers a) (ap (part (q + 1) n) e ∙ part_other z cs s p (q + 1) n (omega arith) (omega arith) (⊎_elim (λ b. inl (omega arith)) (λ b. inr (omega arith)) o)) in
       λ j. record { top = t j; low = u j }
 
@@ -38,14 +38,15 @@ module _ {N C : Type 0} (a : Arithmetic N C) (n : ℕ) where
       in_room : (j : ℕ) → j < k → first + j * (n + 1) + (n + 1) ≤ length cs
       in_room j h = let c = column_in j k (n + 1) h in omega arith
 
-      -- a change before the columns leaves them
-      pub columns_kept : (p : ℕ) → Only p (n + 1) cs ds → p + (n + 1) ≤ first → columns_at a ds n first k ≡ columns_at a cs n first k
-      columns_kept p o h =
+      -- and all columns
+      pub columns_kept : (p h : ℕ) → Only p h cs ds → p + h ≤ length cs → (first + k * (n + 1) ≤ p) ⊎ (p + h ≤ first) → columns_at a ds n first k ≡ columns_at a cs n first k
+      columns_kept p h o hp side =
           let d = column_at a cs n 0 in
           ext_get_or d (columns_at a ds n first k) (columns_at a cs n first k) (length_columns ds ∙ sym (length_columns cs))
           (λ j b.
           let jk : j < k = let l = length_columns ds in omega arith in
-          column_of ds j d jk ∙ column_other cs ds p (first + j * (n + 1)) o (omega arith) (in_room j jk) (inr (omega arith)) ∙ sym (column_of cs j d jk))
+          let c = column_in j k (n + 1) jk in
+          column_of ds j d jk ∙ column_other cs ds p h (first + j * (n + 1)) o hp (in_room j jk) (⊎_elim (λ b. inl (omega arith)) (λ b. inr (omega arith)) side) ∙ sym (column_of cs j d jk))
 
       -- a change of one column leaves the others
       pub columns_set : (l : ℕ) → l < k → Only (first + l * (n + 1)) (n + 1) cs ds → columns_at a ds n first k ≡ set (columns_at a cs n first k) l (column_at a ds n (first + l * (n + 1)))
@@ -59,7 +60,7 @@ module _ {N C : Type 0} (a : Arithmetic N C) (n : ℕ) where
           column_of ds j d jk
           ∙ ⊎_elim
           (λ e. ap (λ (i : ℕ). column_at a ds n (first + i * (n + 1))) e ∙ sym (ap (λ (i : ℕ). get_or (set T l c) i d) e ∙ get_or-set_same T l c d (let m = length_columns cs in omega arith)))
-          (λ ne. column_other cs ds (first + l * (n + 1)) (first + j * (n + 1)) o (in_room l h) (in_room j jk) (columns_apart j l ne) ∙ sym (get_or-set_other T l j c d ne ∙ column_of cs j d jk))
+          (λ ne. column_other cs ds (first + l * (n + 1)) (n + 1) (first + j * (n + 1)) o (in_room l h) (in_room j jk) (columns_apart j l ne) ∙ sym (get_or-set_other T l j c d ne ∙ column_of cs j d jk))
           (cases_eq j l))
 
 -- one round, as the columns have it
@@ -92,10 +93,10 @@ module _ {N C : Type 0} (a : Arithmetic N C) (n p k l r : ℕ) (cs : List C) (ro
     length_ds = (only_within (a.to_cell a.zero) p (n + 1) p (n + 1) cs ds only1 (omega arith) (omega arith) (omega arith)).len
 
     same_l : column_at a ds n at_l ≡ column_at a cs n at_l
-    same_l = let x = column_in l k (n + 1) hl in column_other a n cs ds p at_l only1 (omega arith) (omega arith) (inr (omega arith))
+    same_l = let x = column_in l k (n + 1) hl in column_other a n cs ds p (n + 1) at_l only1 (omega arith) (omega arith) (inr (omega arith))
 
     same_r : column_at a ds n at_r ≡ column_at a cs n at_r
-    same_r = let x = column_in r k (n + 1) hr in column_other a n cs ds p at_r only1 (omega arith) (omega arith) (inr (omega arith))
+    same_r = let x = column_in r k (n + 1) hr in column_other a n cs ds p (n + 1) at_r only1 (omega arith) (omega arith) (inr (omega arith))
 
     -- after the first reduction
     half : round a (work_at a cs n p k) l r ≡ then (reduced a (column_at a ds n at_l) (column_at a ds n at_r)) (λ d. Some (record { B = column_at a ds n p; columns = set T l d }))
@@ -117,9 +118,9 @@ module _ {N C : Type 0} (a : Arithmetic N C) (n p k l r : ℕ) (cs : List C) (ro
         let z = a.to_cell a.zero in
         let le = length_ds in
         let x = column_in l k (n + 1) hl in
-        let b : column_at a es n p ≡ column_at a ds n p = column_other a n ds es at_l p only2 (omega arith) (omega arith) (inl (omega arith)) in
+        let b : column_at a es n p ≡ column_at a ds n p = column_other a n ds es at_l (n + 1) p only2 (omega arith) (omega arith) (inl (omega arith)) in
         let t : columns_at a es n first k ≡ set T l (column_at a es n at_l)
-        = columns_set a n first k ds es (omega arith) l hl only2 ∙ ap (λ (u : List (Column N)). set u l (column_at a es n at_l)) (columns_kept a n first k cs ds room_first p only1 (omega arith)) in
+        = columns_set a n first k ds es (omega arith) l hl only2 ∙ ap (λ (u : List (Column N)). set u l (column_at a es n at_l)) (columns_kept a n first k cs ds room_first p (n + 1) only1 (omega arith) (inr (omega arith))) in
         let w : record { B = column_at a ds n p; columns = set T l (column_at a es n at_l) } ≡ work_at a es n p k = sym (λ j. record { B = b j; columns = t j }) in (
           half ∙ ap (λ (o : Option (Column N)). then o (λ d. Some (record { B = column_at a ds n p; columns = set T l d }))) o2 ∙ ap Some w,
           within_trans (only_within z p (n + 1) p ((n + 1) + k * (n + 1)) cs ds only1 (omega arith) (omega arith) (omega arith)) (only_within z at_l (n + 1) p ((n + 1) + k * (n + 1)) ds es only2 (omega arith) (omega arith) (omega arith)),

@@ -5,12 +5,13 @@ use Rattle.std.proofs.lemmas.Bool.{cond-true, cond-false}
 use Rattle.kinds.specs.Kind.{Arithmetic, Laws}
 use Rattle.lines.specs.Page.{over}
 use Rattle.plans.specs.Posting.{Column, Work, taken, contradicted, overflow, adds, at, closed, settled, finish_by, finish, without}
+use Rattle.plans.proofs.Stored.{adds_length}
 use Rattle.sheets.specs.Cells.{part, numbers, held, number_at}
 use Rattle.sheets.specs.Work.{Only, column_at, columns_at, work_at}
 use Rattle.sheets.proofs.Numbers.{length_numbers_part}
 use Rattle.sheets.proofs.Places.{column_in}
 use Rattle.sheets.proofs.Rounding.{column_of}
-use Rattle.sheets.proofs.Standing.{part_over, length_adds, numbers_held}
+use Rattle.sheets.proofs.Standing.{part_over, numbers_held}
 
 -- operations on equal numbers
 pub quotients : {N C : Type 0} (a : Arithmetic N C) {b b' d d' : N} → b ≡ b' → d ≡ d' → a.quotient b d ≡ a.quotient b' d'
@@ -63,8 +64,7 @@ module _ {N C : Type 0} (a : Arithmetic N C) (n p k l : ℕ) (cs : List C) (room
         finish_taken laws ys ds e s =
             let c = column_in l k (n + 1) hl in
             let lu = length_numbers_part a cs (p + 1) n (omega arith) in
-            let lv = length_numbers_part a cs (p + (n + 1) + l * (n + 1) + 1) n (omega arith) in
-            let ly : length ys ≡ n = length_adds a (numbers a (part (p + 1) n cs)) P.low ys (a.negative q) (lu ∙ sym lv) e ∙ lu in
+            let ly : length ys ≡ n = adds_length a laws (numbers a (part (p + 1) n cs)) (a.negative q) P.low ys e ∙ lu in
             let lh : length (held a ys) ≡ n = length-map ys a.to_cell ∙ ly in
             let f : numbers a (part (p + 1) n ds) ≡ ys = ap (λ (x : List C). numbers a (part (p + 1) n x)) s ∙ ap (numbers a) (part_over cs (held a ys) (p + 1) n (omega arith) lh) ∙ numbers_held a laws ys in (
               finish_z ∙ ap (closed a T l) e ∙ ap (λ (x : List N). taken (record { fixed = x; moves = map (λ c. c.low) (without T l) })) (sym f),

@@ -4,11 +4,12 @@ use Rattle.std.proofs.lemmas.List.{length-map, length-append, length-take-le, le
 use Rattle.kinds.specs.Kind.{Arithmetic, Laws}
 use Rattle.lines.specs.Page.{over}
 use Rattle.plans.specs.Posting.{then, Column, adds, adds_column}
+use Rattle.plans.proofs.Stored.{adds_length}
 use Rattle.sheets.specs.declared.cells.Overflow.{Overflow}
 use Rattle.sheets.specs.Cells.{part, number, or_zero, numbers, held}
 use Rattle.sheets.specs.Combining.{Combined}
 use Rattle.sheets.specs.Work.{column_at, CameAt}
-use Rattle.sheets.proofs.Walks.{get_d_over}
+use Rattle.sheets.proofs.Walks.{get_or_over}
 
 -- what is put over some places is read there
 pub part_over : {X : Type 0} (cells s : List X) (p h : ℕ) → p ≤ length cells → length s ≡ h → part p h (over cells p s) ≡ s
@@ -32,7 +33,7 @@ part_other z cells s p r h k m o =
     let ih : i < h = omega arith in
     get_or-take h (drop r (over cells p s)) i z ih
     ∙ get_or-drop r (over cells p s) i z
-    ∙ get_d_over cells s p (r + i) z (omega arith) (⊎_elim (λ q. inl (omega arith)) (λ q. inr (omega arith)) o)
+    ∙ get_or_over cells s p (r + i) z (omega arith) (⊎_elim (λ q. inl (omega arith)) (λ q. inr (omega arith)) o)
     ∙ sym (get_or-take h (drop r cells) i z ih ∙ get_or-drop r cells i z))
 
 module _ {N C : Type 0} (a : Arithmetic N C) where
@@ -46,23 +47,13 @@ module _ {N C : Type 0} (a : Arithmetic N C) where
       let d = drop_more cells p z h in
       ap (λ (k : ℕ). numbers a (take k (drop p cells))) (add-one n) ∙ ap (λ (xs : List C). numbers a (take (suc n) xs)) d
 
-  pub length_adds : (u v ys : List N) (q : N) → length u ≡ length v → adds a u q v ≡ Some ys → length ys ≡ length u
-  length_adds [] v ys q l e = let z : [] ≡ ys = cc in ap length (sym z)
-  length_adds (x ∷ u) [] ys q l e = absurd (omega arith)
-  length_adds (x ∷ u) (y ∷ v) ys q l e = by (a.add_product x q y) (adds a u q v) refl e (λ zs. length_adds u v zs q (omega arith))
-    where
-      by : (o : Option N) (s : Option (List N)) → adds a u q v ≡ s → then o (λ r. then s (λ rs. Some (r ∷ rs))) ≡ Some ys → ((zs : List N) → adds a u q v ≡ Some zs → length zs ≡ length u) → length ys ≡ suc (length u)
-      by None s h e rest = let z : ◌≡◌ {A = ℕ} 0 1 = cc in absurd (omega arith)
-      by (Some t) None h e rest = let z : ◌≡◌ {A = ℕ} 0 1 = cc in absurd (omega arith)
-      by (Some t) (Some zs) h e rest = let z : t ∷ zs ≡ ys = cc in ap length (sym z) ∙ ap suc (rest zs h)
-
   -- the sum of two columns, as lists
   adds_some : (c d : Column N) (q : N) (ys : List N) → adds a (listed c) q (listed d) ≡ Some ys → (r : Column N) × ((adds_column a c q d ≡ Some r) × (ys ≡ listed r))
   adds_some c d q ys e = by (a.add_product c.top q d.top) (adds a c.low q d.low) e
     where
       by : (o : Option N) (s : Option (List N)) → then o (λ r. then s (λ rs. Some (r ∷ rs))) ≡ Some ys → (r : Column N) × ((then o (λ t. then s (λ l. Some (record { top = t; low = l }))) ≡ Some r) × (ys ≡ listed r))
-      by None s e = let z : ◌≡◌ {A = ℕ} 0 1 = cc in absurd (omega arith)
-      by (Some t) None e = let z : ◌≡◌ {A = ℕ} 0 1 = cc in absurd (omega arith)
+      by None s e = absurd cc
+      by (Some t) None e = absurd cc
       by (Some t) (Some l) e = let z : t ∷ l ≡ ys = cc in (record { top = t; low = l }, (refl, sym z))
 
   adds_nothing : (c d : Column N) (q : N) → adds a (listed c) q (listed d) ≡ None → adds_column a c q d ≡ None
@@ -71,7 +62,7 @@ module _ {N C : Type 0} (a : Arithmetic N C) where
       by : (o : Option N) (s : Option (List N)) → then o (λ r. then s (λ rs. Some (r ∷ rs))) ≡ None → then {Y = Column N} o (λ t. then {Y = Column N} s (λ l. Some (record { top = t; low = l }))) ≡ None
       by None s e = refl
       by (Some t) None e = refl
-      by (Some t) (Some l) e = let z : ◌≡◌ {A = ℕ} 0 1 = cc in absurd (omega arith)
+      by (Some t) (Some l) e = absurd cc
 
   same_column : (r : Column N) (t : N) (l : List N) → t ∷ l ≡ listed r → record { top = t; low = l } ≡ r
   same_column r t l e = let x : t ≡ r.top = cc in let y : l ≡ r.low = cc in λ j. record { top = x j; low = y j }
@@ -98,7 +89,7 @@ module _ {N C : Type 0} (a : Arithmetic N C) where
     combined_came c d q u v cells left n to (Ok _) h eu ev lu lv w =
         let ys = w.0 in
         let s = adds_some c d q ys (sym (λ j. adds a (eu j) q (ev j)) ∙ w.1.0) in
-        let l : length ys ≡ n + 1 = length_adds u v ys q (lu ∙ sym lv) w.1.0 ∙ lu in (
+        let l : length ys ≡ n + 1 = adds_length a laws u q v ys w.1.0 ∙ lu in (
           s.1.0 ∙ ap Some (sym (column_put cells left n to s.0 ys h l s.1.1 w.1.1)),
           (held a ys, (length-map ys a.to_cell ∙ l, w.1.1)),
         )

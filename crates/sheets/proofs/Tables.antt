@@ -1,5 +1,5 @@
--- The room in a table's cells.
-use Rattle.std.proofs.Common.{◌≡◌, ◌+◌, ◌*◌, ◌≤◌, length, ap, arith}
+-- The room in a table's cells, and its shape.
+use Rattle.std.proofs.Common.{◌≡◌, ℕ, ◌+◌, ◌*◌, ◌≤◌, List, length, ap, subst, arith}
 use Rattle.kinds.specs.declared.kind.Kind.{Ghosts}
 use Rattle.sheets.specs.declared.shape.Shape.{Shape}
 use Rattle.sheets.specs.declared.table.Table.{Table}
@@ -31,5 +31,8 @@ module _ {N C : Type 0} {K : Ghosts N C} (t : Table N C K) where
 pub same_unknowns : {s t : Shape} → s ≡ t → s.unknowns ≡ t.unknowns
 same_unknowns e = ap (λ (s : Shape). s.unknowns) e
 
-pub same_moves : {s t : Shape} → s ≡ t → s.moves ≡ t.moves
-same_moves e = ap (λ (s : Shape). s.moves) e
+-- a step told at an equal shape, with an equal result
+pub at_shape : {C R : Type 0} {s t : Shape} {q r : R} (step : ℕ → ℕ → ℕ → List C → R → List C → Type 0) (cs ds : List C) → s ≡ t → q ≡ r
+    → step s.unknowns (main_cells s.unknowns) s.moves cs q ds → step t.unknowns (main_cells t.unknowns) t.moves cs r ds
+at_shape {C} {R} {s} {t} {q} {r} step cs ds e f h =
+    subst (λ (x : R). step t.unknowns (main_cells t.unknowns) t.moves cs x ds) f (subst (λ (x : Shape). step x.unknowns (main_cells x.unknowns) x.moves cs q ds) e h)

@@ -2,7 +2,7 @@
 use Rattle.std.proofs.Common.{◌≡◌, ℕ, zero, suc, ◌+◌, ◌<◌, true, false, cond, eqb, ltb, ◌≢◌, List, length, Some, None, Ok, Option, sym, refl, ap, ◌∙◌, arith}
 use Rattle.std.proofs.lemmas.Bool.{cond-true, cond-false}
 use Rattle.kinds.specs.Kind.{Arithmetic, Laws}
-use Rattle.plans.specs.Posting.{Column, Work, stop, again, fail, larger, largest_of, size_at, pivot_of, runner_up_of, round, turned, turn_by, turn_at, turn, on, rounds, total_size}
+use Rattle.plans.specs.Posting.{Column, Work, stop, again, larger, largest_of, size_at, pivot_of, runner_up_of, round, turned, turn_by, turn_at, turn, on, rounds, total_size}
 use Rattle.plans.proofs.Bests.{best_some}
 use Rattle.plans.proofs.Falling.{enough, turn_falls}
 use Rattle.sheets.specs.Cells.{top_size}
@@ -87,15 +87,12 @@ module _ {N C : Type 0} (a : Arithmetic N C) (laws : Laws a) (n p k : ℕ) where
       let t = total_size a w.columns in
       ap (on a (rounds a t) w) e ∙ enough a laws t (suc (total_size a v.columns)) v (falls cs ds e) (omega arith)
 
-  pub far_more : (start cs ds : List C) → SoFar a n p k start cs → turn a (work_at a cs n p k) ≡ again (work_at a ds n p k) → Within p (work_cells a n k) cs ds → SoFar a n p k start ds
-  far_more start cs ds f e w = record { inside = within_trans f.inside w; same = sym (rounds_on cs ds e) ∙ f.same }
+  pub so_far_more : (start cs ds : List C) → SoFar a n p k start cs → turn a (work_at a cs n p k) ≡ again (work_at a ds n p k) → Within p (work_cells a n k) cs ds → SoFar a n p k start ds
+  so_far_more start cs ds f e w = record { inside = within_trans f.inside w; same = sym (rounds_on cs ds e) ∙ f.same }
 
   -- with no column there is no turn
-  pub far_none : (start : List C) → pivot_of a (columns_at a start n (p + (n + 1)) k) ≡ None → rounds_at a start n p k ≡ None
-  far_none start e = let w = work_at a start n p k in ap (λ (o : Option ℕ). on a (rounds a (total_size a w.columns)) w (turn_at a w o)) e
+  pub so_far_none : (start : List C) → pivot_of a (columns_at a start n (p + (n + 1)) k) ≡ None → rounds_at a start n p k ≡ None
+  so_far_none start e = let w = work_at a start n p k in ap (λ (o : Option ℕ). on a (rounds a (total_size a w.columns)) w (turn_at a w o)) e
 
-  pub far_fail : (start cs : List C) → SoFar a n p k start cs → turn a (work_at a cs n p k) ≡ fail → rounds_at a start n p k ≡ None
-  far_fail start cs f e = sym f.same ∙ ap (on a (rounds a (total_size a (columns_at a cs n (p + (n + 1)) k))) (work_at a cs n p k)) e
-
-  pub far_stop : (start cs : List C) (l : ℕ) → SoFar a n p k start cs → l < k → turn a (work_at a cs n p k) ≡ stop l → Ended a n p k start (Ok l) cs
-  far_stop start cs l f h e = (sym f.same ∙ ap (on a (rounds a (total_size a (columns_at a cs n (p + (n + 1)) k))) (work_at a cs n p k)) e, h, f.inside)
+  pub so_far_stop : (start cs : List C) (l : ℕ) → SoFar a n p k start cs → l < k → turn a (work_at a cs n p k) ≡ stop l → Ended a n p k start (Ok l) cs
+  so_far_stop start cs l f h e = (sym f.same ∙ ap (on a (rounds a (total_size a (columns_at a cs n (p + (n + 1)) k))) (work_at a cs n p k)) e, h, f.inside)

@@ -8,11 +8,11 @@ use Rattle.sheets.specs.Cells.{part, number, numbers, held, number_at}
 use Rattle.sheets.proofs.Numbers.{length_numbers_part, number_of_part}
 
 -- what is put over some places leaves the others
-pub get_d_over : {X : Type 0} (cells s : List X) (to p : ℕ) (d : X) → to ≤ length cells → (p < to) ⊎ (to + length s ≤ p) → get_or (over cells to s) p d ≡ get_or cells p d
-get_d_over cells s to p d h (inl k) =
+pub get_or_over : {X : Type 0} (cells s : List X) (to p : ℕ) (d : X) → to ≤ length cells → (p < to) ⊎ (to + length s ≤ p) → get_or (over cells to s) p d ≡ get_or cells p d
+get_or_over cells s to p d h (inl k) =
     let l = length-take-le to cells h in
     get_or_append_left (take to cells) (s ++ drop (to + length s) cells) d p (omega arith) ∙ get_or-take to cells p d k
-get_d_over cells s to p d h (inr k) =
+get_or_over cells s to p d h (inr k) =
     let l = length-take-le to cells h in
     get_or-append_right (take to cells) (s ++ drop (to + length s) cells) to p d l (omega arith)
     ∙ get_or-append_right s (drop (to + length s) cells) (length s) _ d refl (omega arith)
@@ -52,8 +52,8 @@ module _ {N C : Type 0} (a : Arithmetic N C) (q : N) where
     where
       by : (o : Option N) (s : Option (List N)) → adds a u q v ≡ s → then o (λ r. then s (λ rs. Some (r ∷ rs))) ≡ Some ys → ((zs : List N) → adds a u q v ≡ Some zs → adds a (u ++ x ∷ []) q (v ++ y ∷ []) ≡ Some (zs ++ r ∷ []))
           → then o (λ r. then (adds a (u ++ x ∷ []) q (v ++ y ∷ [])) (λ rs. Some (r ∷ rs))) ≡ Some (ys ++ r ∷ [])
-      by None s h e rest = let z : ◌≡◌ {A = ℕ} 0 1 = cc in absurd (omega arith)
-      by (Some t) None h e rest = let z : ◌≡◌ {A = ℕ} 0 1 = cc in absurd (omega arith)
+      by None s h e rest = absurd cc
+      by (Some t) None h e rest = absurd cc
       by (Some t) (Some zs) h e rest =
           let z : t ∷ zs ≡ ys = cc in
           ap (λ (o : Option (List N)). then o (λ rs. Some (t ∷ rs))) (rest zs h) ∙ ap (λ (k : List N). Some (k ++ r ∷ [])) z
@@ -128,7 +128,7 @@ module _ {N C : Type 0} (a : Arithmetic N C) (q : N) (keep : Bool) (cells : List
   reads i p left w o =
       let z = a.to_cell a.zero in
       let l : length (held a w.ys) ≡ i = length-map w.ys a.to_cell ∙ w.long in
-      ap (number a) (ap (λ (x : List C). get_or x p z) w.stand ∙ get_d_over cells (held a w.ys) to p z (omega arith) (⊎_elim (λ b. inl b) (λ b. inr (omega arith)) o))
+      ap (number a) (ap (λ (x : List C). get_or x p z) w.stand ∙ get_or_over cells (held a w.ys) to p z (omega arith) (⊎_elim (λ b. inl b) (λ b. inr (omega arith)) o))
 
   from_reads : (i : ℕ) → i < h → (from + i < to) ⊎ (to + i ≤ from + i)
   from_reads i k = ⊎_elim (λ b. inr (omega arith)) (λ b. inl (omega arith)) apart
@@ -185,7 +185,7 @@ module _ {N C : Type 0} (a : Arithmetic N C) (cells : List C) (to : ℕ) where
         let l : length (held a (take i Numbers)) ≡ i = length-map (take i Numbers) a.to_cell ∙ length-take-le i Numbers (omega arith) in
         let v : x ≡ get_or Numbers i a.zero
         = r
-        ∙ ap (number a) (ap (λ (t : List C). get_or t (from + i) z) s ∙ get_d_over cells (held a (take i Numbers)) to (from + i) z (omega arith) (⊎_elim (λ b. inr (omega arith)) (λ b. inl (omega arith)) apart))
+        ∙ ap (number a) (ap (λ (t : List C). get_or t (from + i) z) s ∙ get_or_over cells (held a (take i Numbers)) to (from + i) z (omega arith) (⊎_elim (λ b. inr (omega arith)) (λ b. inl (omega arith)) apart))
         ∙ sym (number_of_part a cells from n i hf k) in
         let t : take i Numbers ++ x ∷ [] ≡ take (i + 1) Numbers = ap (λ (y : N). take i Numbers ++ y ∷ []) v ∙ sym (take_more Numbers i a.zero (omega arith)) in
         e

@@ -5,7 +5,7 @@ use Rattle.faults.specs.declared.NumberFault.TheVariants.{NotAdmitted}
 use Rattle.faults.specs.declared.SheetFault.{SheetFault}
 use Rattle.faults.specs.declared.SheetFault.TheVariants.{Page, Line, Number, NoSheet, Count, FewCells, Overflow, Contradicted}
 use Rattle.kinds.specs.Kind.{Arithmetic, Admitted}
-use Rattle.kinds.specs.Equation.{Equation}
+use Rattle.kinds.specs.Equation.{Equation, equation_of}
 use Rattle.plans.specs.Posting.{overflow}
 use Rattle.plans.specs.Sheet.{Contents}
 use Rattle.plans.specs.Solution.{SameLists, MeetsAll, made, Judgement, is_taken, is_implied, is_contradicted, Verdict as Judged, Holds}
@@ -13,10 +13,6 @@ use Rattle.sheets.specs.declared.posting.Verdict.{Verdict}
 use Rattle.sheets.specs.declared.posting.Verdict.TheVariants.{Taken, Implied}
 use Rattle.sheets.specs.Cells.{main_cells, spare_cells, needed, part, zero_cells, contents_in}
 use Rattle.sheets.specs.Sheet.{Model, stands, outcome_of}
-
--- the equation that n + 1 words state: n coefficients, and then the right side
-abbrev pub equation_of : ℕ → List ℤ → Equation
-equation_of n ws = record { coefficients = take n ws; right = slice_index_or ws n (pos 0) }
 
 -- what an answer says of the posted equation; a refusal that is no contradiction says nothing
 abbrev pub judgement_of : Result Verdict SheetFault → Option Judgement

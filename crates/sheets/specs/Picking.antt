@@ -30,8 +30,8 @@ module _ {N C : Type 0} (a : Arithmetic N C) where
   plan_of n s choice = collected (map (picked s choice) (range_with_len 0 n))
 
   -- why no plan can be picked, before any sum is made: `len` words are lent for it
-  abbrev pub pick_refusal_lem : Model C → List ℤ → ℕ → Option SheetFault
-  pick_refusal_lem m choice len =
+  abbrev pub pick_refusal : Model C → List ℤ → ℕ → Option SheetFault
+  pick_refusal m choice len =
       cond (stands m)
       (cond (length choice == m.moves) (cond (len == m.unknowns) (word_fault (find (is_refused a) choice)) (Some Count)) (Some Count))
       (Some NoSheet)
@@ -52,10 +52,10 @@ module _ {N C : Type 0} (a : Arithmetic N C) where
 
   -- the answer to a picking, and the words lent for the plan afterwards
   abbrev pub pick_answer : Model C → List ℤ → List ℤ → Result Unit SheetFault
-  pick_answer m choice words = pick_unless (pick_refusal_lem m choice (length words)) (plan_in m choice)
+  pick_answer m choice words = pick_unless (pick_refusal m choice (length words)) (plan_in m choice)
 
   abbrev pub pick_left : Model C → List ℤ → List ℤ → List ℤ
-  pick_left m choice words = words_unless (pick_refusal_lem m choice (length words)) (plan_in m choice) words
+  pick_left m choice words = words_unless (pick_refusal m choice (length words)) (plan_in m choice) words
 
   -- the first n words are those of the plan, or there is none
   abbrev pub Planned : Option (List N) → ℕ → Option (List ℤ) → Type 0

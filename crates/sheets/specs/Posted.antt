@@ -12,11 +12,11 @@ use Rattle.sheets.specs.Combining.{Within}
 use Rattle.sheets.specs.Work.{column_at, columns_at, work_cells}
 
 -- the answer of an outcome
-abbrev pub answer_of_lem : {N : Type 0} → Outcome N → Result Verdict SheetFault
-answer_of_lem (taken s) = Ok Taken
-answer_of_lem implied = Ok Implied
-answer_of_lem contradicted = Err Contradicted
-answer_of_lem overflow = Err Overflowed
+abbrev pub answer_of : {N : Type 0} → Outcome N → Result Verdict SheetFault
+answer_of (taken s) = Ok Taken
+answer_of implied = Ok Implied
+answer_of contradicted = Err Contradicted
+answer_of overflow = Err Overflowed
 
 module _ {N C : Type 0} (a : Arithmetic N C) where
   -- the main cells change where the posting is taken, and then alone
@@ -41,7 +41,7 @@ module _ {N C : Type 0} (a : Arithmetic N C) where
 
   -- an outcome answered, with the main cells as it leaves them; the cells from p on are left as they may be
   pub record Settled (o : Outcome N) (n p k : ℕ) (before : List C) (r : Result Verdict SheetFault) (after : List C) : Type 0 where
-    pub answer : r ≡ answer_of_lem o
+    pub answer : r ≡ answer_of o
     pub len : length after ≡ length before
     pub main : take (main_cells n) after ≡ main_after o n before
     pub back : drop (p + work_cells a n k) after ≡ drop (p + work_cells a n k) before

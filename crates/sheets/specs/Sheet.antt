@@ -12,7 +12,7 @@ use Rattle.sheets.specs.declared.sheet.Sheet.{Sheet}
 use Rattle.sheets.specs.declared.posting.Verdict.{Verdict}
 use Rattle.sheets.specs.declared.posting.Verdict.TheVariants.{Taken, Implied}
 use Rattle.sheets.specs.Cells.{needed, sheet_cells, contents_in}
-use Rattle.sheets.specs.Posted.{answer_of_lem, cells_after}
+use Rattle.sheets.specs.Posted.{answer_of, cells_after}
 use Rattle.sheets.specs.Words.{number_of, numbers_of, is_refused}
 
 pub record Model (C : Type 0) : Type 0 where
@@ -87,19 +87,19 @@ moves_after (Err fault) k = k
 
 module _ {N C : Type 0} (a : Arithmetic N C) where
   -- why words cannot be posted, before any cell is touched
-  abbrev pub post_refusal_lem : Model C → List ℤ → Option SheetFault
-  post_refusal_lem m ws = cond (stands m) (cond (length ws == m.unknowns + 1) (word_fault (find (is_refused a) ws)) (Some Count)) (Some NoSheet)
+  abbrev pub post_refusal : Model C → List ℤ → Option SheetFault
+  post_refusal m ws = cond (stands m) (cond (length ws == m.unknowns + 1) (word_fault (find (is_refused a) ws)) (Some Count)) (Some NoSheet)
 
   -- what posting the coefficients and, behind them, the right side comes to
   abbrev pub outcome_of : Model C → List ℤ → Outcome N
   outcome_of m ws = posted a (contents_in a m.unknowns m.moves m.cells) (numbers_of a (take m.unknowns ws)) (number_of a (slice_index_or ws m.unknowns (pos 0)))
 
   abbrev pub sheet_after : Model C → Outcome N → Model C
-  sheet_after m o = record { cells = cells_after a o m.unknowns m.cells; unknowns = m.unknowns; moves = moves_after (answer_of_lem o) m.moves; list = m.list }
+  sheet_after m o = record { cells = cells_after a o m.unknowns m.cells; unknowns = m.unknowns; moves = moves_after (answer_of o) m.moves; list = m.list }
 
   abbrev pub answer_unless : Option SheetFault → Outcome N → Result Verdict SheetFault
   answer_unless (Some fault) o = Err fault
-  answer_unless None o = answer_of_lem o
+  answer_unless None o = answer_of o
 
   abbrev pub after_unless : Option SheetFault → Model C → Outcome N → Model C
   after_unless (Some fault) m o = m
@@ -107,7 +107,7 @@ module _ {N C : Type 0} (a : Arithmetic N C) where
 
   -- the answer to posting words, and the sheet that it leaves
   abbrev pub post_answer : Model C → List ℤ → Result Verdict SheetFault
-  post_answer m ws = answer_unless (post_refusal_lem m ws) (outcome_of m ws)
+  post_answer m ws = answer_unless (post_refusal m ws) (outcome_of m ws)
 
   abbrev pub post_left : Model C → List ℤ → Model C
-  post_left m ws = after_unless (post_refusal_lem m ws) m (outcome_of m ws)
+  post_left m ws = after_unless (post_refusal m ws) m (outcome_of m ws)

@@ -16,14 +16,14 @@ abbrev pub show_length : {C : Type 0} → Model C → ℕ
 show_length m = (m.moves + 1) * (5 + 8 * m.unknowns)
 
 -- why a sheet cannot be shown on a page
-abbrev pub show_refusal_lem : {C : Type 0} → Model C → PageModel → Option SheetFault
-show_refusal_lem m p =
+abbrev pub show_refusal : {C : Type 0} → Model C → PageModel → Option SheetFault
+show_refusal m p =
     cond p.begun (Some (Page LineBegun))
     (cond (stands m) (cond (nat_lt (length p.bytes) (p.end + show_length m)) (Some (Page NoRoom)) None) (Some NoSheet))
 
 -- the answer to a showing
 abbrev pub show_answer : {C : Type 0} → Model C → PageModel → Result Unit SheetFault
-show_answer m p = done_unless (show_refusal_lem m p)
+show_answer m p = done_unless (show_refusal m p)
 
 module _ {N C : Type 0} (a : Arithmetic N C) where
   -- numbers as one line, with its line feed
@@ -40,4 +40,4 @@ module _ {N C : Type 0} (a : Arithmetic N C) where
 
   -- the page afterwards
   abbrev pub show_left : Model C → PageModel → PageModel
-  show_left m p = page_unless (show_refusal_lem m p) m p
+  show_left m p = page_unless (show_refusal m p) m p

@@ -8,6 +8,7 @@ ghost use Rattle.sheets.specs.Sheet.{model};
 ghost use Rattle.sheets.specs.Words.{numbers_of};
 
 use crate::cells::read;
+use crate::shape::MOST_UNKNOWNS;
 use crate::sheet::Sheet;
 use crate::words::word_number;
 use kinds::kind::Kind;
@@ -31,12 +32,12 @@ impl<K: Kind> Sheet<'_, K> {
 
     // The words of the plan of a choice: a word for each unknown, in the first of 24.
     // Kept as an array with room to spare: no heap, and no lent word is written before the whole plan is known.
-    pub(crate) fn plan_words(&self, choice: &[i32]) -> Option<[i32; 24]>
+    pub(crate) fn plan_words(&self, choice: &[i32]) -> Option<[i32; MOST_UNKNOWNS]>
         requires room { needed self.now.shape.unknowns ≤ length self.now.cells.now }
         requires exact { length choice.now ≡ self.now.shape.moves }
         ensures { Planned K.Kind.arith (plan_of K.Kind.arith self.now.shape.unknowns (contents_of K.Kind.arith (model self.now)) (numbers_of K.Kind.arith choice.now)) self.now.shape.unknowns result }
     {
-        let mut words = [0; 24];
+        let mut words = [0; MOST_UNKNOWNS];
         for (i, word) in words[..self.shape.unknowns].iter_mut().enumerate() {
             *word = self.picked(choice, i)?.write();
         }

@@ -3,7 +3,7 @@ ghost use Rattle.std.specs.Prelude.{◌≡◌, ◌+◌, ◌≤◌, length, take,
 ghost use Rattle.faults.specs.declared.SheetFault.TheVariants.{Overflow as Overflowed};
 ghost use Rattle.plans.specs.Posting.{worked, normalised};
 ghost use Rattle.sheets.specs.Cells.{needed};
-ghost use Rattle.sheets.specs.Posted.{answer_of_lem, cells_after, Prepared, Settled};
+ghost use Rattle.sheets.specs.Posted.{answer_of, cells_after, Prepared, Settled};
 ghost use Rattle.sheets.specs.Table.{Step, B_of, columns_of, outcome_in, outcome_on};
 ghost use Rattle.sheets.specs.Words.{number_of, numbers_of};
 
@@ -90,7 +90,7 @@ impl<K: Kind> Table<'_, K> {
         requires { length words.now ≡ self.old.shape.unknowns + 1 }
         ensures held { self.new.cells.ghost_name ≡ self.old.cells.ghost_name }
         ensures shape { self.new.shape ≡ self.old.shape }
-        ensures value { result ≡ answer_of_lem (outcome_on self.old words.now) }
+        ensures value { result ≡ answer_of (outcome_on self.old words.now) }
         ensures cells { self.new.cells.now ≡ cells_after K.Kind.arith (outcome_on self.old words.now) self.old.shape.unknowns self.old.cells.now }
     {
         let verdict = self.work(words);
@@ -108,7 +108,7 @@ pub(crate) fn post_words<K: Kind>(
 ) -> Result<Verdict, SheetFault>
     requires room { needed shape.unknowns ≤ length cells.old }
     requires exact { length words.now ≡ shape.unknowns + 1 }
-    ensures value { result ≡ answer_of_lem (outcome_in K.Kind.arith shape cells.old words.now) }
+    ensures value { result ≡ answer_of (outcome_in K.Kind.arith shape cells.old words.now) }
     ensures cells { cells.new ≡ cells_after K.Kind.arith (outcome_in K.Kind.arith shape cells.old words.now) shape.unknowns cells.old }
 {
     let mut table = Table::<K> { cells, shape };

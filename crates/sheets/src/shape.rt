@@ -2,6 +2,9 @@
 ghost use Rattle.std.specs.Prelude.{◌≡◌, ◌+◌, ◌*◌, ◌<◌, ◌≤◌};
 ghost use Rattle.sheets.specs.Cells.{main_cells, needed};
 
+// As many unknowns as a sheet may have.
+pub const MOST_UNKNOWNS: usize = 24;
+
 #[derive(Clone, Copy)]
 pub struct Shape {
     // 0 where the sheet could not be opened: opening is public and cannot fail.

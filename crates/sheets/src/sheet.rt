@@ -4,15 +4,15 @@ ghost use Rattle.std.specs.Int.{w32};
 ghost use Rattle.std.specs.List.{AllByRecursion};
 ghost use Rattle.sheets.specs.Clearing.{clear_answer, clear_left};
 ghost use Rattle.sheets.specs.Law.{StandsFor, Sound, SpareZero, RefusalsExact, PostLaw, ClearLaw, PickLaw};
-ghost use Rattle.sheets.specs.Picking.{pick_refusal_lem as pick_refusal_of, pick_answer, pick_left};
-ghost use Rattle.sheets.specs.Sheet.{model, model_of, outline_of, asked as asked_of, checked, opened, stands as stands_of, done_unless, post_refusal_lem as post_refusal_of, post_answer, post_left};
+ghost use Rattle.sheets.specs.Picking.{pick_refusal, pick_answer, pick_left};
+ghost use Rattle.sheets.specs.Sheet.{model, model_of, outline_of, asked as asked_of, checked, opened, stands as stands_of, done_unless, post_refusal, post_answer, post_left};
 ghost use Rattle.lines.specs.Page.{model as page_model};
 ghost use Rattle.sheets.specs.Showing.{show_answer, show_left};
 
 use crate::cells::needed_cells;
 use crate::opening::lay_sheet;
 use crate::posting::{Verdict, post_words};
-use crate::shape::{Outline, Shape};
+use crate::shape::{MOST_UNKNOWNS, Outline, Shape};
 use crate::words::check_words;
 use faults::{NumberFault, SheetFault};
 use kinds::kind::Kind;
@@ -34,7 +34,7 @@ pub struct Sheet<'a, K: Kind> {
 fn asked(unknowns: i32, list: i32, len: usize) -> Result<(usize, u16), SheetFault>
     ensures { result ≡ asked_of unknowns list len }
 {
-    if !(1..=24).contains(&unknowns) {
+    if !(1..=MOST_UNKNOWNS as i32).contains(&unknowns) {
         return Err(SheetFault::Number(NumberFault::Unknowns));
     }
     let list = u16::try_from(list).map_err(|_| SheetFault::Number(NumberFault::ListNumber))?;
@@ -114,7 +114,7 @@ impl<K: Kind> Sheet<'_, K> {
     // Whether words can be posted, before any cell is touched.
     fn check_post(&self, words: &[i32]) -> Result<(), SheetFault>
         ensures fit { OnOk result (AllByRecursion (FitsSigned w32) words.now) }
-        ensures value { result ≡ done_unless (post_refusal_of K.Kind.arith (model self.now) words.now) }
+        ensures value { result ≡ done_unless (post_refusal K.Kind.arith (model self.now) words.now) }
     {
         if !self.stands() {
             return Err(SheetFault::NoSheet);
@@ -134,7 +134,7 @@ impl<K: Kind> Sheet<'_, K> {
         ensures law { PostLaw K.Kind.arith (model self.old) words.now result (model self.new) }
         ensures sound { Sound K.Kind.arith (model self.old) → Sound K.Kind.arith (model self.new) }
         ensures spare { SpareZero K.Kind.arith (model self.old) → SpareZero K.Kind.arith (model self.new) }
-        ensures wiped { post_refusal_of K.Kind.arith (model self.old) words.now ≡ None → SpareZero K.Kind.arith (model self.new) }
+        ensures wiped { post_refusal K.Kind.arith (model self.old) words.now ≡ None → SpareZero K.Kind.arith (model self.new) }
     {
         self.check_post(words)?;
         let n = self.shape.unknowns;
@@ -168,7 +168,7 @@ impl<K: Kind> Sheet<'_, K> {
     // Whether a plan can be picked, before any sum is made: `len` words are lent for it.
     fn check_pick(&self, choice: &[i32], len: usize) -> Result<(), SheetFault>
         ensures fit { OnOk result (AllByRecursion (FitsSigned w32) choice.now) }
-        ensures value { result ≡ done_unless (pick_refusal_of K.Kind.arith (model self.now) choice.now len) }
+        ensures value { result ≡ done_unless (pick_refusal K.Kind.arith (model self.now) choice.now len) }
     {
         if !self.stands() {
             return Err(SheetFault::NoSheet);
@@ -205,7 +205,7 @@ impl<K: Kind> Sheet<'_, K> {
             0
         };
         if let Some(fault) = page.text_refusal(len) {
-            return Err(SheetFault::Page(fault));
+            return Err(fault.into());
         }
         if !stands {
             return Err(SheetFault::NoSheet);

@@ -22,8 +22,8 @@ def any_number(r):
 class Session:
     """Writes lines for a sheet of which it knows the kind, the unknowns and, by guess, the moves."""
 
-    def __init__(self, r, whole):
-        self.r, self.whole = r, whole
+    def __init__(self, r):
+        self.r = r
         self.modulus, self.n = 0, 2
         self.clear()
 
@@ -35,7 +35,7 @@ class Session:
 
     def open(self):
         r = self.r
-        modulus = 0 if r.random() < self.whole else 7
+        modulus = 0 if r.random() < 0.6 else 7
         n = r.choice([1, 1, 2, 2, 2, 3, 3, 3, 4, 4, 5, 6, 8, 11, 16, 23, 24])
         number = r.choice([0, 1, 65535, r.randrange(65536)])
         if r.random() < 0.12:

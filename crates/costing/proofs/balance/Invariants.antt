@@ -2,8 +2,9 @@ use Rattle.std.proofs.Common.{◌≡◌, false, length, Some}
 use Rattle.std.specs.Iterator.Adapters.{zip_first, zip_second}
 use Rattle.std.specs.List.{AllByRecursion}
 use Rattle.std.specs.Slice.Iter.{iter_rest}
+use Rattle.kinds.specs.Equation.{equation_of}
 use Rattle.lines.specs.Line.{is_lowest}
-use Rattle.costing.specs.Costing.{equation_of, balance_of, running}
+use Rattle.costing.specs.Costing.{balance_of, running}
 use Rattle.costing.proofs.balance.Given as goal
 
 abbrev pub invariant-loop-c : goal.invariant-loop-c

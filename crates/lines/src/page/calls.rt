@@ -1,6 +1,6 @@
 // The calls of a page. Each is stated on the page's model, and keeps whose bytes the page holds.
 ghost use Rattle.std.specs.Prelude.{◌≡◌, ◌+◌, ◌≤◌, length, Some, None, MatchResult};
-ghost use Rattle.lines.specs.Page.{over, zeroed, model, empty_page, with_bytes, begin_refusal, began, put_refusal, with_word, end_refusal, closed, given_up, text_refusal_lem};
+ghost use Rattle.lines.specs.Page.{over, zeroed, model, empty_page, with_bytes, begin_refusal, began, put_refusal, with_word, end_refusal, closed, given_up, text_refusal};
 
 use super::begun::Begun;
 use super::{LineToken, Owed, Page};
@@ -43,7 +43,7 @@ impl<'a> Page<'a> {
     // Why `len` bytes of whole lines cannot be put at the page's end. Kept as an Option: it is public, and callers may
     // rest on it.
     pub fn text_refusal(&self, len: usize) -> Option<PageFault>
-        ensures { result ≡ text_refusal_lem (model self.now) len }
+        ensures { result ≡ text_refusal (model self.now) len }
     {
         if self.line.is_some() {
             return Some(PageFault::LineBegun);

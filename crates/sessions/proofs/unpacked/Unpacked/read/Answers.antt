@@ -1,6 +1,6 @@
 use Rattle.std.proofs.Common.{◌≡◌, ℕ, true, List, ◌++◌, length, take, drop, ℤ, Ok, Option, sym, refl, ap, ◌∙◌, arith}
 use Rattle.std.proofs.lemmas.Result.{err_from_is_err_and}
-use Rattle.std.proofs.lemmas.Bool.Decides.{nat_tests}
+use Rattle.std.proofs.lemmas.Bool.{cond-true}
 use Rattle.faults.specs.declared.LineFault.{LineFault}
 use Rattle.lines.specs.Line.{frame_of, has, numbers, count_of, words_left}
 use Rattle.lines.specs.declared.reading.Line.{Line}
@@ -13,7 +13,7 @@ use Rattle.sessions.proofs.unpacked.Unpacked.read.Goals as goal
 
 -- a frame that is known is named
 named : (frame : ℕ) → has frame known ≡ true → frame_named frame ≡ Ok (frame_kind frame)
-named frame h = grind (arith, nat_tests)
+named frame h = cond-true _ _ _ h
 
 pub returns-in_err-read-clause-asked : goal.returns-in_err-read-clause-asked
 returns-in_err-read-clause-asked c =

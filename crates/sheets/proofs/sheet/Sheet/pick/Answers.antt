@@ -1,7 +1,7 @@
 use Rattle.std.proofs.Common.{◌≡◌, length, take, Some, None, Ok, Result, sym, ◌∙◌, subst, subst₂, rules}
 use Rattle.faults.specs.declared.SheetFault.{SheetFault}
 use Rattle.sheets.specs.Law.{PickLaw}
-use Rattle.sheets.specs.Picking.{Planned, pick_refusal_lem, plan_in, pick_unless, words_unless, pick_answer, pick_left}
+use Rattle.sheets.specs.Picking.{Planned, pick_refusal, plan_in, pick_unless, words_unless, pick_answer, pick_left}
 use Rattle.sheets.specs.Sheet.{model}
 use Rattle.sheets.proofs.OneStep.{pick_law}
 use Rattle.sheets.proofs.Refusals.{pickable, done_none}
@@ -14,7 +14,7 @@ returns g c =
     let n = m.unknowns in
     let choice = c.args.choice.now in
     let plan = c.args.plan.now in
-    let q : pick_refusal_lem a m choice (length plan) ≡ None = done_none (pick_refusal_lem a m choice (length plan)) (sym c.check_pick.ensures.value ∙ c.in_ok-check_pick.was) in
+    let q : pick_refusal a m choice (length plan) ≡ None = done_none (pick_refusal a m choice (length plan)) (sym c.check_pick.ensures.value ∙ c.in_ok-check_pick.was) in
     let p = pickable a m choice (length plan) q in
     let o : c.plan_words.result ≡ Some c.in_ok-words.words = search rules in
     let came = subst (Planned a (plan_in a m choice) n) o c.plan_words.ensures in

@@ -1,6 +1,6 @@
-use Rattle.std.proofs.Common.{ap, ◌≡◌, ℕ, ◌-◌, Some, Err, sym, refl, ◌∙◌, arith, rules}
+use Rattle.std.proofs.Common.{ap, ◌≡◌, ◌-◌, Some, Err, sym, refl, ◌∙◌, rules}
 use Rattle.std.proofs.lemmas.Result.{err_from_is_err_and}
-use Rattle.sheets.specs.Sheet.{Model, model, post_refusal_lem, post_answer, post_left}
+use Rattle.sheets.specs.Sheet.{Model, model, post_refusal, post_answer, post_left}
 use Rattle.sheets.proofs.OneStep.{post_keeps}
 use Rattle.sheets.proofs.Refusals.{undone}
 use Rattle.sheets.proofs.sheet.Sheet.post.Goals as goal
@@ -11,12 +11,12 @@ returns-in_err-check_post g c =
     let m = model c.args.self.now in
     let ws = c.args.words.now in
     let fault = c.in_err-check_post.field-0.0 in
-    let o : post_refusal_lem a m ws ≡ Some fault = undone (post_refusal_lem a m ws) fault (sym c.check_post.ensures.value ∙ c.in_err-check_post.was) in
+    let o : post_refusal a m ws ≡ Some fault = undone (post_refusal a m ws) fault (sym c.check_post.ensures.value ∙ c.in_err-check_post.was) in
     let q = err_from_is_err_and c.from_residual.result c.from_residual.ensures.1 in
     let e : c.from_residual.result ≡ Err fault = q.1 ∙ ap Err q.2 in
     let answer : c.from_residual.result ≡ post_answer a m ws = e ∙ (search rules) in
     let left : m ≡ post_left a m ws = search rules in
-    let k = post_keeps a g.met.K.Kind.kept m c.args.self.now.shape.few ws (λ e. let z : ◌≡◌ {A = ℕ} 0 1 = cc in absurd (omega arith)) c.from_residual.result m answer left in
+    let k = post_keeps a g.met.K.Kind.kept m c.args.self.now.shape.few ws (λ e. absurd cc) c.from_residual.result m answer left in
     record { held = refl; answer = answer; left = left; refusals = k.refusals; law = k.law; sound = k.sound; spare = k.spare; wiped = k.wiped }
 
 pub returns-in-Ok-Taken : goal.returns-in-Ok-Taken

@@ -2,7 +2,8 @@ use Rattle.std.proofs.Common.{◌≡◌, ℕ, [], ◌+◌, ◌*◌, ◌≤◌, l
 use Rattle.lines.specs.Page.{over}
 use Rattle.plans.specs.Sheet.{unit_moves}
 use Rattle.sheets.specs.Cells.{held}
-use Rattle.sheets.proofs.Fresh.{each_unit, length_units}
+use Rattle.plans.proofs.NewSheet.{units_many}
+use Rattle.sheets.proofs.Fresh.{each_unit}
 use Rattle.sheets.proofs.Rows.{rows_start, rows_more, rows_end}
 use Rattle.sheets.proofs.Tables.{square_in, same_unknowns}
 use Rattle.sheets.proofs.table.Table.lay_units.Goals as goal
@@ -20,7 +21,7 @@ loop-j-preserved g c =
     let s = c.args.self.now in
     let n = s.shape.unknowns in
     let j = c.loop-j.j in
-    let l = length_units a n in
+    let l = units_many a n in
     let u = same_unknowns c.loop-j.invariant.shape in
     let q = square_in s in
     let sq : n + length (unit_moves a n) * n ≤ length s.cells.now = rw l (omega (arith, q, s.room)) in
@@ -37,5 +38,5 @@ returns-clause-cells g c =
     let a = g.K.Kind.arith in
     let s = c.args.self.now in
     let n = s.shape.unknowns in
-    let l = length_units a n in
+    let l = units_many a n in
     rows_end a n (unit_moves a n) (each_unit a n) s.cells.now c.loop-j.self.cells.now n c.loop-j.j (omega (arith, l, c.requires)) c.loop-j.invariant.cells
