@@ -1,2 +1,3 @@
+-- The lemmas that several proofs of costing share, a file each.
 pub mod Sums
 pub mod Verdicts

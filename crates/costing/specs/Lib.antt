@@ -1,3 +1,4 @@
+-- The definitions that contracts of costing cite, a file each.
 pub mod Costing
 pub mod Samples
 pub mod Words

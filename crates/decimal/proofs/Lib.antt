@@ -1,1 +1,2 @@
+-- The lemmas that several proofs of decimal share, a file each.
 pub mod Each

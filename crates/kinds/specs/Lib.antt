@@ -1,3 +1,4 @@
+-- The definitions that contracts of kinds cite, and the proofs of the laws: Ring, Sames, Weekdays and Wholes.
 pub mod Kind
 pub mod Equation
 pub mod Weekday

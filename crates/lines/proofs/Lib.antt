@@ -1,3 +1,4 @@
+-- The lemmas that several proofs of lines share, a file each.
 pub mod Accepting
 pub mod Digits
 pub mod Filling

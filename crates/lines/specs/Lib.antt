@@ -1,3 +1,4 @@
+-- The definitions that contracts of lines cite, a file each.
 pub mod Hex
 pub mod Line
 pub mod Page

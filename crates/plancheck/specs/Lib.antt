@@ -1,1 +1,2 @@
+-- The definitions that contracts of plancheck cite, a file each.
 pub mod Unread

@@ -1,3 +1,4 @@
+-- The lemmas that several proofs of plans share, a file each.
 pub mod Bests
 pub mod Falling
 pub mod SameLists

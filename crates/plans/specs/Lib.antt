@@ -1,3 +1,4 @@
+-- The definitions that contracts of plans cite, a file each.
 pub mod Sheet
 pub mod Posting
 pub mod Overflows

@@ -1,3 +1,4 @@
+-- The definitions that contracts of runs cite, a file each.
 pub mod Calls
 pub mod Run
 pub mod Laws

@@ -1,3 +1,4 @@
+-- The lemmas that several proofs of sessions share, a file each.
 pub mod Lawful
 pub mod Opening
 pub mod Picks

@@ -1,3 +1,4 @@
+-- The definitions that contracts of sessions cite, a file each.
 pub mod Frames
 pub mod Law
 pub mod Lines

@@ -1,3 +1,4 @@
+-- The lemmas that several proofs of sheets share, a file each.
 pub mod Closing
 pub mod Fresh
 pub mod Laying

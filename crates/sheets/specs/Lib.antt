@@ -1,3 +1,4 @@
+-- The definitions that contracts of sheets cite, a file each.
 pub mod Cells
 pub mod Combining
 pub mod Posted

@@ -1,3 +1,4 @@
+-- `balance`: its loop keeps what holds at each turn and what it calls may be called.
 use Rattle.std.proofs.Common.{◌≡◌, false, length, get_or, take, pos, ap, ◌∙◌, arith, w32, SFits, rules}
 use Rattle.std.proofs.ByRecursion.{All-get_or, All-take}
 use Rattle.std.proofs.lemmas.Int.{to_z-of_z}

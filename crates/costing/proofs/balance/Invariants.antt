@@ -1,3 +1,4 @@
+-- `balance`: what holds at each turn of its loop.
 use Rattle.std.proofs.Common.{◌≡◌, false, length, Some}
 use Rattle.std.specs.Iterator.Adapters.{zip_first, zip_second}
 use Rattle.std.specs.List.{AllByRecursion}

@@ -1,3 +1,4 @@
+-- `costing_meets`: its clauses hold where it returns.
 use Rattle.std.proofs.Common.{rules}
 use Rattle.costing.proofs.Verdicts.{means}
 use Rattle.costing.proofs.costing_meets.Goals as goal

@@ -1,3 +1,4 @@
+-- `numbers_of`: what it makes keeps its invariant and its clauses hold where it returns.
 use Rattle.std.proofs.Common.{◌≡◌, ℕ, ◌≤◌, List, [], ◌∷◌, length, take, ℤ, None, Ok, sym, ap, ◌∙◌, arith, rules}
 use Rattle.std.proofs.lemmas.Result.{err_from_is_err_and}
 use Rattle.lines.specs.Hex.{find}

@@ -1,3 +1,4 @@
+-- `samples_stand`: the theorems that it carries.
 use Rattle.std.proofs.Common.{◌≡◌, [], ◌∷◌, replicate, pos, None, refl}
 use Rattle.kinds.specs.Sames.{same_eq}
 use Rattle.kinds.specs.Wholes.{equal}

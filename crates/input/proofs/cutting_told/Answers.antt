@@ -1,3 +1,4 @@
+-- `cutting_told`: the theorems that it carries.
 use Rattle.input.proofs.Notes.{lines_noted, bytes_noted}
 use Rattle.input.proofs.cutting_told.Goals as goal
 

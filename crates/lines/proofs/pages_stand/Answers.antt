@@ -1,3 +1,4 @@
+-- `pages_stand`: the theorems that it carries.
 use Rattle.lines.proofs.Filling.{short_line, given_line, room_exact}
 use Rattle.lines.proofs.pages_stand.Goals as goal
 

@@ -1,3 +1,4 @@
+-- `new_sheet_general`: the theorems that it carries.
 use Rattle.plans.proofs.NewSheet.{new_general}
 use Rattle.plans.proofs.new_sheet_general.Goals as goal
 

@@ -1,3 +1,4 @@
+-- `posting_exact`: the theorems that it carries.
 use Rattle.plans.proofs.Rightness.{posting_exact_lem}
 use Rattle.plans.proofs.posting_exact.Goals as goal
 

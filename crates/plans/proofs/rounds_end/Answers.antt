@@ -1,3 +1,4 @@
+-- `rounds_end`: the theorems that it carries.
 use Rattle.plans.proofs.Falling.{enough}
 use Rattle.plans.proofs.Lacking.{only_products}
 use Rattle.plans.proofs.rounds_end.Goals as goal

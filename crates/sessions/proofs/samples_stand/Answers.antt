@@ -1,3 +1,4 @@
+-- `samples_stand`: the theorems that it carries.
 use Rattle.std.proofs.Common.{◌≡◌, List, [], ◌∷◌, ◌++◌, length, take, get_or, replicate, ℕ, ℤ, pos, negsuc, ◌+ℤ◌, ◌*ℤ◌, refl, ap, subst, arith}
 use Rattle.std.specs.Prelude.{codes}
 use borrow.Author.Differences.{ints}

@@ -1,3 +1,4 @@
+-- Printing a plan: what holds at each turn of its loop.
 use Rattle.std.proofs.Common.{take}
 use Rattle.std.specs.Fmt.{HasWritten, IsPlainFormatter}
 use Rattle.decimal.specs.Decimal.{each, entry}

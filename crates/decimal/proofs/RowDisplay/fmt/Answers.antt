@@ -1,3 +1,4 @@
+-- Printing a row: its loop keeps what holds at each turn.
 use Rattle.std.proofs.Common.{ℕ, List, ◌∷◌, ◌+◌, pos, get_or, sym, ap, rules}
 use Rattle.std.proofs.Output.{has_written_append, has_written_of_eq}
 use Rattle.std.specs.Fmt.{HasWritten}

@@ -1,3 +1,4 @@
+-- Printing a row: what holds at each turn of its loop.
 use Rattle.std.proofs.Common.{◌++◌, codes, take}
 use Rattle.std.specs.Fmt.{HasWritten, IsPlainFormatter}
 use Rattle.decimal.specs.Decimal.{each, member}

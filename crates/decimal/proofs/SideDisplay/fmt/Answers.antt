@@ -1,3 +1,4 @@
+-- Printing an equation's coefficients: its loop keeps what holds at each turn.
 use Rattle.std.proofs.Common.{◌+◌, pos, get_or, sym, rules}
 use Rattle.std.proofs.Output.{has_written_append, has_written_of_eq}
 use Rattle.std.specs.Fmt.{HasWritten}

@@ -1,3 +1,4 @@
+-- `Cutter::each_line`: its loop keeps what holds at each turn and its clauses hold where it returns.
 use Rattle.std.proofs.Common.{◌≡◌, sym, ◌∙◌, ap, option_copied, Some, Err, rules, of_calls}
 use Rattle.std.specs.Fn.{CalledAt}
 use Rattle.input.specs.Cutting.{rest}

@@ -1,3 +1,4 @@
+-- `Cutter::each_line`: what holds at each turn of its loop and what gets smaller.
 use Rattle.std.proofs.Common.{◌≡◌, length}
 use Rattle.std.specs.Fn.{CalledAt}
 use Rattle.input.specs.Cutting.{lines, left, Handed}

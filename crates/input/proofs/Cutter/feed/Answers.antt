@@ -1,3 +1,4 @@
+-- `Cutter::feed`: its clauses hold where it returns.
 use Rattle.std.proofs.Common.{ℕ, List, ◌++◌, take, ap, sym, ◌∙◌, arith}
 use Rattle.std.proofs.lemmas.Grind.{common_steps}
 use Rattle.input.proofs.Cuts.{line_found, rest_found, line_missed, rest_missed}

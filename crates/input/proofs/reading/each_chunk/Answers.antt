@@ -1,3 +1,4 @@
+-- `each_chunk`: its clauses hold where it returns.
 use Rattle.std.proofs.Common.{◌≡◌, ◌<◌, true, false, length, Ok, Err, OnOk, ap, sym, subst, ◌∙◌, rules, of_calls}
 use Rattle.std.specs.Fn.{Called, CalledAt}
 use Rattle.std.specs.Io.BufRead.{FillKeeps}

@@ -1,3 +1,4 @@
+-- `each_chunk`: what holds at each turn of its loop.
 use Rattle.std.specs.Fn.{CalledAt}
 use Rattle.input.specs.Chunks.{Fed}
 use Rattle.input.proofs.reading.each_chunk.Given as goal

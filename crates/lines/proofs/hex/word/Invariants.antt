@@ -1,3 +1,4 @@
+-- `word`: what holds at each turn of its loop.
 use Rattle.std.proofs.Common.{◌≡◌, take}
 use Rattle.lines.specs.Hex.{number_of}
 use Rattle.lines.proofs.hex.word.Given as goal

@@ -1,3 +1,4 @@
+-- `word_digits`: its clauses hold where it returns.
 use Rattle.std.proofs.Common.{rules, ◌≡◌, ℕ, ◌/◌, ◌%◌, ◌<◌, List, ◌++◌, [], ◌∷◌, get_or, ap, ◌∙◌, arith, lit<, w32, of_z, to_z}
 use Rattle.std.proofs.lemmas.Int.{to_z-of_z}
 use Rattle.std.specs.Int.{to_be_bytes}

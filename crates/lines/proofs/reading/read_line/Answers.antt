@@ -1,3 +1,4 @@
+-- `read_line`: its clauses hold where it returns.
 use Rattle.std.proofs.Common.{ap, ◌∙◌}
 use Rattle.lines.specs.declared.reading.Line.{Line}
 use Rattle.lines.specs.Line.{line_text, numbers}

@@ -1,3 +1,4 @@
+-- `write_line`: its loop keeps what holds at each turn and its clauses hold where it returns.
 use Rattle.std.proofs.Common.{◌≡◌, ℕ, ◌+◌, length, get_or, take, fold, pos, None, sym, ap, ◌∙◌, subst, arith, w32, SFits, rules}
 use Rattle.std.specs.List.{AllByRecursion}
 use Rattle.std.proofs.ByRecursion.{All-more}

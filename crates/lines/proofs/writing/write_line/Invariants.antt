@@ -1,3 +1,4 @@
+-- `write_line`: what holds at each turn of its loop.
 use Rattle.std.proofs.Common.{◌≡◌, true, length, take, fold, w32, SFits}
 use Rattle.std.specs.List.{AllByRecursion}
 use Rattle.lines.specs.Page.{model, with_word}

@@ -1,3 +1,4 @@
+-- `make_call`: its clauses hold where it returns.
 use Rattle.std.proofs.Common.{sym, subst, subst₂, rules}
 use Rattle.sheets.proofs.OneStep.{clear_law, clear_sound, clear_spare}
 use Rattle.runs.specs.Calls.{called}

@@ -1,3 +1,4 @@
+-- `make_steps`: its loop keeps what holds at each turn.
 use Rattle.std.proofs.Common.{◌∙◌}
 use Rattle.runs.specs.Run.{state}
 use Rattle.runs.proofs.Steps.{made_more}

@@ -1,3 +1,4 @@
+-- `make_steps`: what holds at each turn of its loop.
 use Rattle.std.proofs.Common.{◌≡◌}
 use Rattle.runs.specs.Run.{state}
 use Rattle.runs.proofs.Steps.{Made}

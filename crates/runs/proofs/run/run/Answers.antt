@@ -1,3 +1,4 @@
+-- `run`: its clauses hold where it returns.
 use Rattle.std.proofs.Common.{◌≡◌, [], refl, rules}
 use Rattle.lines.specs.Page.{model as page_model}
 use Rattle.sheets.proofs.OneStep.{open_law, open_sound, open_spare}

@@ -1,3 +1,4 @@
+-- `accepted_and_refused`: the theorems that it carries.
 use Rattle.runs.proofs.SampleCalls.{calls}
 use Rattle.runs.proofs.SampleKinds.{kinds}
 use Rattle.runs.proofs.SampleRuns.{runs}

@@ -1,3 +1,4 @@
+-- `in_every_kind`: the theorems that it carries.
 use Rattle.runs.proofs.SampleKinds.{prime_modulus}
 use Rattle.runs.proofs.Unique.{one_right, one_solution}
 use Rattle.runs.proofs.theorems.in_every_kind.Goals as goal

@@ -1,3 +1,4 @@
+-- `overflowing_kinds`: the theorems that it carries.
 use Rattle.runs.proofs.SampleKinds.{weekdays_never, wholes_may}
 use Rattle.runs.proofs.theorems.overflowing_kinds.Goals as goal
 

@@ -1,3 +1,4 @@
+-- `write_answer`: its clauses hold where it returns.
 use Rattle.std.proofs.Common.{◌≡◌, [], ◌∷◌, ◌++◌, ◌∙◌, w32, to_z, of_z}
 use Rattle.std.proofs.lemmas.Int.{to_z-of_z}
 use Rattle.lines.specs.Line.{line_text}

@@ -1,3 +1,4 @@
+-- `pick`: what it calls may be called.
 use Rattle.std.proofs.Common.{take, sym, ◌∙◌}
 use Rattle.sheets.specs.Sheet.{model}
 use Rattle.sessions.proofs.Placing.{pick_placeable}

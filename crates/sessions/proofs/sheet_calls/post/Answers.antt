@@ -1,3 +1,4 @@
+-- `post`: what it calls may be called.
 use Rattle.std.proofs.Common.{sym, ◌∙◌}
 use Rattle.sheets.specs.Sheet.{model}
 use Rattle.sessions.proofs.Placing.{post_placeable}

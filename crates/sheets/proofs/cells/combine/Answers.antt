@@ -1,3 +1,4 @@
+-- `combine`: its loop keeps what holds at each turn and its clauses hold where it returns.
 use Rattle.std.proofs.Common.{◌≡◌, true, None, arith, rules}
 use Rattle.std.proofs.lemmas.Result.{err_from_is_err_and}
 use Rattle.sheets.proofs.Walks.{walk_start, walk_more, walk_stop, walk_only}

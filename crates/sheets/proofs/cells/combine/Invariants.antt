@@ -1,3 +1,4 @@
+-- `combine`: what holds at each turn of its loop.
 use Rattle.sheets.specs.Cells.{part, numbers}
 use Rattle.sheets.proofs.Walks.{Walked}
 use Rattle.sheets.proofs.cells.combine.Given as goal

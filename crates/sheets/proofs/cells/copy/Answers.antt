@@ -1,3 +1,4 @@
+-- `copy`: its loop keeps what holds at each turn.
 use Rattle.sheets.proofs.Walks.{copy_start, copy_more}
 use Rattle.sheets.proofs.cells.copy.Goals as goal
 

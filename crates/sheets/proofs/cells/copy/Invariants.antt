@@ -1,3 +1,4 @@
+-- `copy`: what holds at each turn of its loop.
 use Rattle.std.proofs.Common.{◌≡◌, take}
 use Rattle.lines.specs.Page.{over}
 use Rattle.sheets.specs.Cells.{part, numbers, held}

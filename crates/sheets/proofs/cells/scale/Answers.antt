@@ -1,3 +1,4 @@
+-- `scale`: its loop keeps what holds at each turn and its clauses hold where it returns.
 use Rattle.std.proofs.Common.{◌≡◌, false, None, inl, arith, rules}
 use Rattle.std.proofs.lemmas.Result.{err_from_is_err_and}
 use Rattle.sheets.proofs.Walks.{walk_more, walk_stop, walk_only}

@@ -1,3 +1,4 @@
+-- `scale`: what holds at each turn of its loop.
 use Rattle.sheets.specs.Cells.{part, numbers}
 use Rattle.sheets.proofs.Walks.{Walked, base}
 use Rattle.std.proofs.Common.{false}

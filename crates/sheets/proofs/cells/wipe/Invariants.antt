@@ -1,3 +1,4 @@
+-- `wipe`: what holds at each turn of its loop.
 use Rattle.std.proofs.Common.{◌≡◌, take}
 use Rattle.sheets.specs.Cells.{zero_cells}
 use Rattle.sheets.proofs.cells.wipe.Given as goal

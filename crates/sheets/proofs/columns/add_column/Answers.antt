@@ -1,3 +1,4 @@
+-- `add_column`: its clauses hold where it returns.
 use Rattle.std.proofs.Common.{◌+◌, arith}
 use Rattle.sheets.specs.Cells.{part, numbers}
 use Rattle.sheets.specs.Work.{column_at}

@@ -1,3 +1,4 @@
+-- `lay_column`: its clauses hold where it returns.
 use Rattle.sheets.proofs.Laying.{laid}
 use Rattle.sheets.proofs.columns.lay_column.Goals as goal
 

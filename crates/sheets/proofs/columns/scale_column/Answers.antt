@@ -1,3 +1,4 @@
+-- `scale_column`: its clauses hold where it returns.
 use Rattle.std.proofs.Common.{◌+◌, map, ap, ◌∙◌, arith}
 use Rattle.std.proofs.lemmas.List.{length-map}
 use Rattle.plans.specs.Posting.{blank}

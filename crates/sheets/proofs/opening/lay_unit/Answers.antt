@@ -1,3 +1,4 @@
+-- `lay_unit`: its clauses hold where it returns.
 use Rattle.sheets.proofs.Fresh.{unit_laid}
 use Rattle.sheets.proofs.opening.lay_unit.Goals as goal
 

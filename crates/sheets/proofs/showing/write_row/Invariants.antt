@@ -1,3 +1,4 @@
+-- `write_row`: what holds at each turn of its loop.
 use Rattle.std.proofs.Common.{◌≡◌, true, map, length, take, fold}
 use Rattle.lines.specs.Page.{model, with_word}
 use Rattle.sheets.specs.Cells.{numbers}

@@ -1,3 +1,4 @@
+-- `check_words`: its loop keeps what holds at each turn and its clauses hold where it returns.
 use Rattle.std.proofs.Common.{◌≡◌, true, false, pos, not, get_or, is_some, sym, ap, ◌∙◌, rules, w32, SFits}
 use Rattle.std.proofs.ByRecursion.{All-more}
 use Rattle.std.proofs.lemmas.Int.{to_z-of_z}

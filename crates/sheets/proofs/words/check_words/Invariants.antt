@@ -1,3 +1,4 @@
+-- `check_words`: what holds at each turn of its loop.
 use Rattle.std.proofs.Common.{◌≡◌, take, drop, w32, SFits}
 use Rattle.std.specs.List.{AllByRecursion, position_from}
 use Rattle.lines.specs.Hex.{find}

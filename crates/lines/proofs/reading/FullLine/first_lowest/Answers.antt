@@ -1,3 +1,4 @@
+-- `FullLine::first_lowest`: its clauses hold where it returns.
 use Rattle.std.proofs.Common.{rules, tests, ◌≡◌, ℕ, suc, ◌+◌, ◌*◌, ◌<◌, Bool, List, ◌∷◌, [], cond, length, get_or, drop, take, find, ℤ, pos, Some, None, Option, option_map, sym, refl, ap, ◌∙◌, add-zero, zero-add, arith}
 use Rattle.std.proofs.lemmas.Iterator.{YieldsList-from_range}
 use Rattle.std.proofs.lemmas.Iterator.Search.{find_from_yields_List}

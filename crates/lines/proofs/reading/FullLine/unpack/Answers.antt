@@ -1,3 +1,4 @@
+-- `FullLine::unpack`: its loop keeps what holds at each turn and its clauses hold where it returns.
 use Rattle.std.proofs.Common.{◌≡◌, ◌<◌, ◌≤◌, List, [], ◌∷◌, ◌++◌, length, get_or, drop, ℤ, pos, sym, ap, ◌∙◌, arith, w32, to_z, of_z}
 use Rattle.std.proofs.lemmas.List.{take_more_set, take_more, take_all, length-take-le}
 use Rattle.std.proofs.lemmas.Int.{to_z-of_z}

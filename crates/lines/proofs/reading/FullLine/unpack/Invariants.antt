@@ -1,3 +1,4 @@
+-- `FullLine::unpack`: what holds at each turn of its loop.
 use Rattle.std.proofs.Common.{◌≡◌, drop, take}
 use Rattle.lines.specs.Line.{words_of}
 use Rattle.lines.proofs.reading.FullLine.unpack.Given as goal

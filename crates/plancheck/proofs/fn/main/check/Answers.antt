@@ -1,3 +1,4 @@
+-- The closure `check` of `main`: what it makes keeps its invariant.
 use Rattle.std.proofs.Common.{rules}
 use Rattle.input.proofs.Cuts.{handed_keeps}
 use Rattle.plancheck.proofs.fn.main.check.Goals as goal

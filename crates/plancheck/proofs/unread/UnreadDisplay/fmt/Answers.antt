@@ -1,3 +1,4 @@
+-- Printing a line that could not be read: its clauses hold where it returns.
 use Rattle.std.proofs.Common.{◌≡◌, ℕ, List, ◌++◌, cond, codes, length, map, nat_lt, take, ap, ◌∙◌, arith, rules}
 use Rattle.std.proofs.Output.{has_written_append, has_written_of_eq}
 use Rattle.std.proofs.lemmas.List.{take_all, take_min}

@@ -1,3 +1,4 @@
+-- Printing a line that could not be read: what holds at each turn of its loop.
 use Rattle.std.proofs.Common.{◌++◌, codes, map, take}
 use Rattle.std.specs.Fmt.{HasWritten, IsPlainFormatter}
 use Rattle.plancheck.specs.Unread.{glyph}

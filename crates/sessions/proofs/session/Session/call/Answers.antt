@@ -1,3 +1,4 @@
+-- `Session::call`: its clauses hold where it returns.
 use Rattle.std.proofs.Common.{◌≡◌, ◌++◌, length, take, replicate, pos, Ok, Option, sym, ap, ◌∙◌, subst, zero-add, lit≤, rules}
 use Rattle.faults.specs.declared.SheetFault.{SheetFault}
 use Rattle.lines.specs.Line.{numbers}

@@ -1,3 +1,4 @@
+-- `Session::write_reply`: its clauses hold where it returns.
 use Rattle.std.proofs.Common.{ℤ, ap, ◌∙◌, w32}
 use Rattle.std.proofs.lemmas.Int.{to_z-of_z}
 use Rattle.lines.specs.Page.{model, with_text}

@@ -1,3 +1,4 @@
+-- `Sheet::clear`: its clauses hold where it returns.
 use Rattle.std.proofs.Common.{◌≡◌, Ok, Result, refl, rules}
 use Rattle.faults.specs.declared.SheetFault.{SheetFault}
 use Rattle.sheets.specs.Clearing.{clear_answer, clear_left}

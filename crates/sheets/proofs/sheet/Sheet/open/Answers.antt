@@ -1,3 +1,4 @@
+-- `Sheet::open`: its clauses hold where it returns.
 use Rattle.std.proofs.Common.{◌≡◌, [], sym, refl, subst, rules}
 use Rattle.sheets.specs.Law.{StandsFor, Sound, SpareZero}
 use Rattle.sheets.specs.Sheet.{Model, opened}

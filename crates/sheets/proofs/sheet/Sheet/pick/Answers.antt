@@ -1,3 +1,4 @@
+-- `Sheet::pick`: its clauses hold where it returns.
 use Rattle.std.proofs.Common.{◌≡◌, length, take, Some, None, Ok, Result, sym, ◌∙◌, subst, subst₂, rules}
 use Rattle.faults.specs.declared.SheetFault.{SheetFault}
 use Rattle.sheets.specs.Law.{PickLaw}

@@ -1,3 +1,4 @@
+-- `Sheet::picked`: what holds at each turn of its loop.
 use Rattle.std.proofs.Common.{◌≡◌, drop}
 use Rattle.plans.specs.Posting.{running}
 use Rattle.sheets.specs.Cells.{moves_at, contents_in}

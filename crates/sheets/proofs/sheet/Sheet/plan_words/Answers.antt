@@ -1,3 +1,4 @@
+-- `Sheet::plan_words`: its loop keeps what holds at each turn and its clauses hold where it returns.
 use Rattle.std.proofs.Common.{◌≡◌, sym, ◌∙◌, subst, arith, w32, to_z, of_z}
 use Rattle.std.proofs.lemmas.Int.{to_z-of_z}
 use Rattle.sheets.specs.Law.{contents_of}

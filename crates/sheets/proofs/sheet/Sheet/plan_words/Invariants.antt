@@ -1,3 +1,4 @@
+-- `Sheet::plan_words`: what holds at each turn of its loop.
 use Rattle.sheets.specs.Law.{contents_of}
 use Rattle.sheets.specs.Sheet.{model}
 use Rattle.sheets.specs.Words.{numbers_of}

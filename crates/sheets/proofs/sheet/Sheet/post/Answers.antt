@@ -1,3 +1,4 @@
+-- `Sheet::post`: its clauses hold where it returns.
 use Rattle.std.proofs.Common.{ap, ◌≡◌, ◌-◌, Some, Err, sym, refl, ◌∙◌, rules}
 use Rattle.std.proofs.lemmas.Result.{err_from_is_err_and}
 use Rattle.sheets.specs.Sheet.{Model, model, post_refusal, post_answer, post_left}

@@ -1,3 +1,4 @@
+-- `Sheet::write_rows`: what holds at each turn of its loop.
 use Rattle.std.proofs.Common.{◌≡◌}
 use Rattle.lines.specs.Page.{model, with_text}
 use Rattle.sheets.proofs.Shows.{move_texts}

@@ -1,3 +1,4 @@
+-- `Table::all_zero`: its clauses hold where it returns.
 use Rattle.std.proofs.Common.{◌≡◌, ℕ, ◌+◌, ◌*◌, Bool, eqb, ◌&&◌, List, [], ◌∷◌, map, refl, ap, ◌∙◌, rules, tests, arith}
 use Rattle.std.proofs.lemmas.Iterator.{YieldsList-from_range}
 use Rattle.std.proofs.lemmas.Iterator.Search.{all_from_yields_List}

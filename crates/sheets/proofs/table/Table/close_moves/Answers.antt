@@ -1,3 +1,4 @@
+-- `Table::close_moves`: its loop keeps what holds at each turn and its clauses hold where it returns.
 use Rattle.std.proofs.Common.{◌≡◌, ℕ, ◌+◌, ◌*◌, refl, ap, ◌∙◌, subst, arith}
 use Rattle.lines.specs.Page.{over}
 use Rattle.sheets.specs.Cells.{main_cells, part, numbers, held}

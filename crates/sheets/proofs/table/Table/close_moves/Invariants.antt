@@ -1,3 +1,4 @@
+-- `Table::close_moves`: what holds at each turn of its loop.
 use Rattle.std.proofs.Common.{◌≡◌, take}
 use Rattle.std.specs.List.{flat_map}
 use Rattle.lines.specs.Page.{over}

@@ -1,3 +1,4 @@
+-- `Table::close_up`: its clauses hold where it returns.
 use Rattle.std.proofs.Common.{◌≡◌, ℕ, ◌+◌, List, map, length, refl, ap, ◌∙◌, subst, inr, arith}
 use Rattle.std.proofs.lemmas.List.{length-map}
 use Rattle.lines.specs.Page.{over}

@@ -1,3 +1,4 @@
+-- `Table::largest`: its clauses hold where it returns.
 use Rattle.std.proofs.Common.{◌≡◌, ◌<◌, IfSome, Option, ℕ, sym, ap, ◌∙◌, subst, arith}
 use Rattle.plans.specs.Posting.{largest_of}
 use Rattle.plans.proofs.Bests.{largest_under}

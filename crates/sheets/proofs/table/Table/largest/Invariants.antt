@@ -1,3 +1,4 @@
+-- `Table::largest`: what holds at each turn of its loop.
 use Rattle.std.proofs.Common.{◌≡◌, IfSome}
 use Rattle.plans.specs.Posting.{largest_of}
 use Rattle.sheets.specs.Table.{skipped, size_of, top_of}

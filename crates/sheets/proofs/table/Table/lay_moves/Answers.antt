@@ -1,3 +1,4 @@
+-- `Table::lay_moves`: its loop keeps what holds at each turn and its clauses hold where it returns.
 use Rattle.std.proofs.Common.{◌≡◌, ℕ, ◌+◌, ◌*◌, Some, None, sym, ap, ◌∙◌, subst, arith, rules}
 use Rattle.std.proofs.lemmas.Result.{err_from_is_err_and}
 use Rattle.plans.specs.Posting.{running}

@@ -1,3 +1,4 @@
+-- `Table::lay_new`: its clauses hold where it returns.
 use Rattle.std.proofs.Common.{◌≡◌, ℕ, ap, ◌∙◌, subst}
 use Rattle.lines.specs.Page.{over}
 use Rattle.sheets.specs.Cells.{main_cells, spare_cells, zero_cells}

@@ -1,3 +1,4 @@
+-- `Table::lay_units`: its loop keeps what holds at each turn and its clauses hold where it returns.
 use Rattle.std.proofs.Common.{◌≡◌, ℕ, [], ◌+◌, ◌*◌, ◌≤◌, length, refl, ap, ◌∙◌, subst, arith, slice_index_or}
 use Rattle.lines.specs.Page.{over}
 use Rattle.plans.specs.Sheet.{unit_moves}

@@ -1,3 +1,4 @@
+-- `Table::normalise`: what holds at each turn of its loop.
 use Rattle.std.proofs.Common.{◌≡◌}
 use Rattle.sheets.specs.Table.{first_of}
 use Rattle.sheets.proofs.Laying.{Units}

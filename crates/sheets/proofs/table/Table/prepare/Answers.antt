@@ -1,3 +1,4 @@
+-- `Table::prepare`: its clauses hold where it returns.
 use Rattle.std.proofs.Common.{w32, SFits, ◌≡◌, ℕ, length, take, pos, slice_index_or, Some, None, sym, ap, ◌∙◌, subst, arith, rules}
 use Rattle.std.proofs.lemmas.Int.{to_z-of_z}
 use Rattle.std.proofs.lemmas.List.{length-take-le}

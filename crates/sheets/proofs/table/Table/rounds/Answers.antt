@@ -1,3 +1,4 @@
+-- `Table::rounds`: its loop keeps what holds at each turn, its loop ends, and its clauses hold where it returns.
 use Rattle.std.proofs.Common.{◌≡◌, List, Some, None, Ok, sym, refl, ◌∙◌, subst, rules}
 use Rattle.std.proofs.lemmas.Result.{err_from_is_err_and}
 use Rattle.plans.specs.Posting.{turn as turned}

@@ -1,3 +1,4 @@
+-- `Table::rounds`: what holds at each turn of its loop and what gets smaller.
 use Rattle.std.proofs.Common.{◌≡◌, Some}
 use Rattle.plans.specs.Posting.{total_size, pivot_of}
 use Rattle.sheets.specs.Cells.{main_cells}

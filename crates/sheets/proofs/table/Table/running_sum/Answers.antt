@@ -1,3 +1,4 @@
+-- `Table::running_sum`: its loop keeps what holds at each turn and its clauses hold where it returns.
 use Rattle.std.proofs.Common.{get_or, ap, rules, w32, SFits, length, pos, Some, None, sym, ◌∙◌, arith}
 use Rattle.std.proofs.lemmas.Int.{to_z-of_z}
 use Rattle.std.proofs.lemmas.List.{length-map, get_or-map}

@@ -1,3 +1,4 @@
+-- `Table::running_sum`: what holds at each turn of its loop.
 use Rattle.std.proofs.Common.{◌≡◌, length, drop}
 use Rattle.plans.specs.Posting.{running}
 use Rattle.sheets.specs.Cells.{part, numbers}

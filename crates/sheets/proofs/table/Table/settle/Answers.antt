@@ -1,3 +1,4 @@
+-- `Table::settle`: its clauses hold where it returns.
 use Rattle.std.proofs.Common.{◌≡◌, refl, Some, Ok, Err, ap, ◌∙◌, subst, true, false}
 use Rattle.std.proofs.lemmas.Result.{err_from_is_err_and}
 use Rattle.lines.specs.Page.{over}

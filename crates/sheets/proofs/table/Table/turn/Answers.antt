@@ -1,3 +1,4 @@
+-- `Table::turn`: what it calls may be called and its clauses hold where it returns.
 use Rattle.std.proofs.Common.{eqb, sym, refl, ap, ◌∙◌, subst}
 use Rattle.std.proofs.lemmas.Result.{err_from_is_err_and}
 use Rattle.plans.specs.Posting.{round as rounded, turned}
