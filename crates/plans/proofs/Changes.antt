@@ -73,27 +73,22 @@ scaled_length : {m : ℕ} {vs vs' : List (List ℤ)} → Scaled m vs vs' → len
 scaled_length none_scaled = refl
 scaled_length (one_scaled t w i h k) = ap suc (scaled_length k)
 
-old_scaled : {m : ℕ} {vs vs' : List (List ℤ)} → Scaled m vs vs' → List ℤ → List ℤ
-old_scaled none_scaled ys = ys
-old_scaled (one_scaled t w i h k) [] = []
-old_scaled (one_scaled t w i h k) (y ∷ ys) = (y *ℤ t) ∷ old_scaled k ys
+scaled_by : (ℤ → ℤ → ℤ) → {m : ℕ} {vs vs' : List (List ℤ)} → Scaled m vs vs' → List ℤ → List ℤ
+scaled_by f none_scaled ys = ys
+scaled_by f (one_scaled t w i h k) [] = []
+scaled_by f (one_scaled t w i h k) (y ∷ ys) = (y *ℤ f t w) ∷ scaled_by f k ys
 
-new_scaled : {m : ℕ} {vs vs' : List (List ℤ)} → Scaled m vs vs' → List ℤ → List ℤ
-new_scaled none_scaled ys = ys
-new_scaled (one_scaled t w i h k) [] = []
-new_scaled (one_scaled t w i h k) (y ∷ ys) = (y *ℤ w) ∷ new_scaled k ys
+scaled_by_length : (f : ℤ → ℤ → ℤ) {m : ℕ} {vs vs' : List (List ℤ)} (k : Scaled m vs vs') (ys : List ℤ) → length (scaled_by f k ys) ≡ length ys
+unfolding scaled_by
+scaled_by_length f none_scaled ys = refl
+scaled_by_length f (one_scaled t w i h k) [] = refl
+scaled_by_length f (one_scaled t w i h k) (y ∷ ys) = ap suc (scaled_by_length f k ys)
 
-old_scaled_length : {m : ℕ} {vs vs' : List (List ℤ)} (k : Scaled m vs vs') (ys : List ℤ) → length (old_scaled k ys) ≡ length ys
-unfolding old_scaled
-old_scaled_length none_scaled ys = refl
-old_scaled_length (one_scaled t w i h k) [] = refl
-old_scaled_length (one_scaled t w i h k) (y ∷ ys) = ap suc (old_scaled_length k ys)
+abbrev old_scaled : {m : ℕ} {vs vs' : List (List ℤ)} → Scaled m vs vs' → List ℤ → List ℤ
+old_scaled k ys = scaled_by (λ t w. t) k ys
 
-new_scaled_length : {m : ℕ} {vs vs' : List (List ℤ)} (k : Scaled m vs vs') (ys : List ℤ) → length (new_scaled k ys) ≡ length ys
-unfolding new_scaled
-new_scaled_length none_scaled ys = refl
-new_scaled_length (one_scaled t w i h k) [] = refl
-new_scaled_length (one_scaled t w i h k) (y ∷ ys) = ap suc (new_scaled_length k ys)
+abbrev new_scaled : {m : ℕ} {vs vs' : List (List ℤ)} → Scaled m vs vs' → List ℤ → List ℤ
+new_scaled k ys = scaled_by (λ t w. w) k ys
 
 plus_times : (u : List ℤ) (y t : ℤ) (v : List ℤ) → plus u y (times t v) ≡ plus u (y *ℤ t) v
 plus_times [] y t v = refl
@@ -101,7 +96,7 @@ plus_times (a ∷ u) y t [] = refl
 plus_times (a ∷ u) y t (b ∷ v) = ap₂ ◌∷◌ (simp ring) (plus_times u y t v)
 
 made_scaled : {m : ℕ} {vs vs' : List (List ℤ)} (k : Scaled m vs vs') (ys u u' : List ℤ) → SameLists m u' u → SameLists m (made u' vs' ys) (made u vs (old_scaled k ys))
-unfolding old_scaled
+unfolding scaled_by
 made_scaled none_scaled ys u u' e = e
 made_scaled (one_scaled t w i h k) [] u u' e = e
 made_scaled (one_scaled {v = v} {v' = v'} t w i h k) (y ∷ ys) u u' e = made_scaled k ys (plus u (y *ℤ t) v) (plus u' y v') (lists_trans (plus_same e same_refl h) (lists_eq (plus_times u y t v)))
@@ -116,13 +111,13 @@ divide : {m : ℕ} (y z t w : ℤ) → Same m (t *ℤ w) (pos 1) → Same m (y *
 divide y z t w i s = same_trans (same_sym (inverse' y t w i)) (same_trans (same_mul {c = w} s same_refl) (inverse' z t w i))
 
 scaled_back : {m : ℕ} {vs vs' : List (List ℤ)} (k : Scaled m vs vs') (ys : List ℤ) → SameLists m (old_scaled k (new_scaled k ys)) ys
-unfolding old_scaled new_scaled
+unfolding scaled_by
 scaled_back none_scaled ys = lists_refl ys
 scaled_back (one_scaled t w i h k) [] = ended
 scaled_back (one_scaled t w i h k) (y ∷ ys) = also (inverse y t w i) (scaled_back k ys)
 
 scaled_once : {m : ℕ} {vs vs' : List (List ℤ)} (k : Scaled m vs vs') (ys zs : List ℤ) → SameLists m (old_scaled k ys) (old_scaled k zs) → SameLists m ys zs
-unfolding old_scaled
+unfolding scaled_by
 scaled_once none_scaled ys zs e = e
 scaled_once (one_scaled t w i h k) [] [] e = ended
 scaled_once (one_scaled t w i h k) [] (z ∷ zs) e = absurd (omega (arith, lists_length e))
@@ -134,8 +129,8 @@ change_scaled u vs vs' k = record {
   as_many = scaled_length k;
   to_old = old_scaled k;
   to_new = new_scaled k;
-  old_length = λ y e. old_scaled_length k y ∙ e;
-  new_length = λ y e. new_scaled_length k y ∙ e;
+  old_length = λ y e. scaled_by_length (λ t w. t) k y ∙ e;
+  new_length = λ y e. scaled_by_length (λ t w. w) k y ∙ e;
   old_made = λ y e. made_scaled k y u u (lists_refl u);
   new_made = λ y e. lists_trans (made_same (columns_refl vs) (lists_sym (scaled_back k y)) (lists_refl u)) (lists_sym (made_scaled k (new_scaled k y) u u (lists_refl u)));
   once = λ y z e f h. scaled_once k y z h;

@@ -84,8 +84,7 @@ module _ {N C : Type 0} (a : Arithmetic N C) (laws : Laws a) where
   pivot_some : (cs : List (Column N)) (l : ℕ) (x q : N) → l < length cs → a.quotient x (at a cs l).top ≡ Some q → ¬ Same a.modulus (top_at (map (full a) cs) l) (pos 0)
   pivot_some cs l x q i h z =
       let n = laws.none_quotient x (at a cs l).top (same_trans (same_eq (sym (top_full a cs l i))) z) in
-      let o : ◌≡◌ {A = ℕ} 0 1 = cc in
-      omega arith
+      cc
 
   in_full : (cs : List (Column N)) (l : ℕ) → l < length cs → l < length (map (full a) cs)
   in_full cs l i = subst (λ k. l < k) (sym (length-map cs (full a))) i

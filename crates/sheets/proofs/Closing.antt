@@ -99,7 +99,7 @@ module _ {N C : Type 0} (a : Arithmetic N C) (n p k l : ℕ) (start : List C) (m
   pub close_end : (j : ℕ) (now : List C) → j ≡ k - 1 → now ≡ over start n (held a (SoFar j)) → now ≡ over start n (held a (flat_map (λ m. m) L))
   close_end j now e s = rows_end a n L each_left start now n j (e ∙ sym length_L) s
 
-  pub length_moves : length (held a (flat_map (λ m. m) L)) ≡ (k - 1) * n
+  length_moves : length (held a (flat_map (λ m. m) L)) ≡ (k - 1) * n
   length_moves = length_rows a n L each_left ∙ ap (λ (i : ℕ). i * n) length_L
 
   -- the fixed plan, the moves, and zeros behind them

@@ -46,7 +46,7 @@ module _ {N C : Type 0} (a : Arithmetic N C) where
   taken_up w (x, h) = ap (λ (o : Option N). not (is_some o)) h
 
   refuses : (w : ℤ) → is_refused a w ≡ true → ¬ Admitted a w
-  refuses w e y = let f = taken_up w y in let z : ◌≡◌ {A = Bool} true false = cc in let o : ◌≡◌ {A = ℕ} 0 1 = cc in omega arith
+  refuses w e y = let f = taken_up w y in cc
 
   refused : (w : ℤ) → ¬ Admitted a w → is_refused a w ≡ true
   refused w n = by (a.read w) refl
