@@ -1,4 +1,4 @@
--- `Sheet::write_rows`: its loop keeps what holds at each turn, its calls may be made, and its clauses hold where it returns.
+-- `Sheet::write_rows`: its loop keeps what holds at each turn, its calls may be made, and its clauses hold.
 use Rattle.std.proofs.Common.{◌≡◌, ℕ, ◌+◌, ◌-◌, ◌*◌, length, sym, refl, ap, ◌∙◌, subst, arith}
 use Rattle.std.proofs.lemmas.List.{length-take, length-drop}
 use Rattle.lines.specs.Page.{model, with_text, HasRoom}
