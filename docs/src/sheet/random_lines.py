@@ -1,7 +1,7 @@
 #!/usr/bin/env python3
-"""Random sessions for the program sheet: random_lines.py COUNT SEED [WHOLE [DAMAGED]].
+"""Random sessions for the program sheet: random_lines.py COUNT SEED [DAMAGED].
 
-WHOLE is the share of openings with whole numbers, 0.6 unless given, and DAMAGED that of lines damaged, 0.1 unless given.
+DAMAGED is the share of lines that are damaged, one in ten unless given.
 """
 import random
 import sys
@@ -163,8 +163,8 @@ def main():
     words = sys.argv[1:]
     count, seed = int(words[0]), int(words[1])
     r = random.Random(seed)
-    session = Session(r, float(words[2]) if len(words) > 2 else 0.6)
-    damaged = float(words[3]) if len(words) > 3 else 0.1
+    session = Session(r)
+    damaged = float(words[2]) if len(words) > 2 else 0.1
     lines = []
     for i in range(count):
         before = dict(vars(session))
