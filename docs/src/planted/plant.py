@@ -1,9 +1,9 @@
 #!/usr/bin/env python3
 """Plants bugs in a copy of the repository: plant.py ROOT COPY TABLE [CRATE...]. See run.
 
-Each bug becomes a must-fail edit of the copy, so that the gate's own command says whether the prover refuses it. One
-that the prover lets pass must show in what a program or a test says. The crates' parts of TABLE
-are written anew.
+Bugs of different functions are planted together, at most one in each; what that check lets pass is planted alone, as a
+must-fail edit of the gate's own command. What the prover lets pass must show in what a program or a test says. The
+crates' parts of TABLE are written anew.
 """
 import os
 import re
@@ -96,23 +96,79 @@ def fitting(root, crate, bugs):
             sys.exit(f"{crate}: {bug.what}: the bug does not fit {bug.path}")
 
 
-def plant(copy, every):
-    """What the gate's command says of each bug, by crate and number."""
-    for crate, bugs in every.items():
-        folder = f"{copy}/crates/{crate}/must-fail"
-        shutil.rmtree(folder, ignore_errors=True)
-        os.mkdir(folder)
-        for number, bug in enumerate(bugs):
-            with open(f"{folder}/{number:03}.edit", "w") as file:
-                file.write(bug.edit)
-    run = subprocess.run(["rt", "must-fail", *every], cwd=copy, capture_output=True, text=True)
-    said = run.stdout + run.stderr
-    with open(f"{copy}/said", "w") as file:
-        file.write(said)
-    return {(m[1], int(m[2])): m[3] for m in re.finditer(r"^(?:rt: )*must-fail (\w+)/(\d+)\.edit: (.*)$", said, re.M)}
+def plant_alone(copy, crate, bugs):
+    """What the gate's own command says of each of a crate's bugs, by its number: each is planted alone."""
+    folder = f"{copy}/crates/{crate}/must-fail"
+    shutil.rmtree(folder, ignore_errors=True)
+    os.mkdir(folder)
+    for number, bug in bugs.items():
+        with open(f"{folder}/{number:03}.edit", "w") as file:
+            file.write(bug.edit)
+    run = subprocess.run(["rt", "must-fail", crate], cwd=copy, capture_output=True, text=True)
+    said = re.finditer(r"^(?:rt: )*must-fail \w+/(\d+)\.edit: (.*)$", run.stdout + run.stderr, re.M)
+    return {int(m[1]): m[2] for m in said}
 
 
-PROGRAMS = {"sheet": ["{copy}/model"], "plancheck": ["python3", "{root}/docs/src/plancheck/model.py"], "walkthrough": []}
+REFUSED_AT = r"^(?:note: )?(?:\./)?((?:src|proofs)/[\w/]+\.\w+):(\d+):\d+: (?:error|it is not proved|`search`)"
+
+
+UNREAD_AT = r"^(?:\./)?(src/[\w/]+\.\w+):(\d+):\d+: error\["
+
+
+def function_at(folder, path, line):
+    """The function of a place that the check names: in the code, or in the proof file of a function."""
+    if path.startswith("src/"):
+        found = [name for name, first, last in functions(f"{folder}/{path}") if first < line <= last + 1]
+        return found[0] if found else None
+    owner, name = path.split("/")[-3:-1]
+    return f"{owner.removesuffix('Display')}::{name}" if owner[0].isupper() else name
+
+
+def plant_together(copy, crate, bugs):
+    """What one check says of bugs that stand in functions of their own, by number; nothing of one that it lets pass."""
+    folder = f"{copy}/crates/{crate}"
+    kept = {bug.path: open(f"{folder}/{bug.path}").read() for bug in bugs.values()}
+    texts = dict(kept)
+    for bug in bugs.values():
+        texts[bug.path] = bug.edited(texts[bug.path])
+    try:
+        for path, text in texts.items():
+            open(f"{folder}/{path}", "w").write(text)
+        run = subprocess.run(["rt", "check"], cwd=folder, capture_output=True, text=True)
+    finally:
+        for path, text in kept.items():
+            open(f"{folder}/{path}", "w").write(text)
+    said, out = {}, run.stdout + run.stderr
+    unread = {function_at(folder, m[1], int(m[2])) for m in re.finditer(UNREAD_AT, out, re.M)}
+    left = {number: bug for number, bug in bugs.items() if bug.place not in unread}
+    if 1 < len(left) < len(bugs):
+        return plant_together(copy, crate, left)
+    if "logic=not-proved" not in out:
+        return said
+    for m in re.finditer(REFUSED_AT + ".*$", out, re.M):
+        said.setdefault(function_at(folder, m[1], int(m[2])), m[0])
+    return {number: said[bug.place] for number, bug in bugs.items() if bug.place in said}
+
+
+def plant(copy, crate, bugs):
+    """What is said of each of a crate's bugs. A function is proved by the contracts of those that it calls, and not by
+    their bodies, so one check serves bugs of many functions; what it lets pass, or cannot read, is planted alone."""
+    said, left = {}, dict(enumerate(bugs))
+    while left:
+        turn = {}
+        for number, bug in left.items():
+            if bug.place != bug.path and bug.place not in [other.place for other in turn.values()]:
+                turn[number] = bug
+        if len(turn) < 2:
+            break
+        told = plant_together(copy, crate, turn)
+        said.update(told)
+        left = {number: bug for number, bug in left.items() if number not in turn}
+    alone = {number: bug for number, bug in enumerate(bugs) if number not in said}
+    return said | (plant_alone(copy, crate, alone) if alone else {})
+
+
+PROGRAMS = {"plancheck": ["python3", "{root}/docs/src/plancheck/model.py"], "sheet": ["{copy}/model"], "walkthrough": []}
 
 
 def shown_by(root, copy, crate):
@@ -131,6 +187,16 @@ def shown_by(root, copy, crate):
     return f"`docs/src/edges/run`: {run.stdout.splitlines()[0]}" if run.returncode else None
 
 
+def below(root, crate):
+    """The crates that a crate rests on, and the crate."""
+    rests = {line.split(":")[0].split()[0]: line.split(":")[1].split() for line in open(f"{root}/crates.txt") if ":" in line and line[0] != "#"}
+    found, left = set(), [crate]
+    while left:
+        found.add(left[-1])
+        left += rests[left.pop()]
+    return found
+
+
 def shown(root, copy, bug):
     """Where a bug that the check lets pass shows: above, in a program's output, or in a test; None where it does not."""
     target = f"{copy}/crates/{bug.crate}/{bug.path}"
@@ -138,7 +204,7 @@ def shown(root, copy, bug):
     with open(target, "w") as file:
         file.write(bug.edited(text))
     try:
-        for crate in [bug.crate] if bug.crate in PROGRAMS else PROGRAMS:
+        for crate in [program for program in PROGRAMS if bug.crate in below(root, program)]:
             where = shown_by(root, copy, crate)
             if where:
                 return where
@@ -183,18 +249,19 @@ def main():
     every = {crate: bugs for crate, bugs in every.items() if bugs}
     for crate, bugs in every.items():
         fitting(root, crate, bugs)
-    said = plant(copy, every)
     pages, survived, lacking = sections(table), 0, []
     for crate, bugs in every.items():
         text = ["| function | what the bug does | the edit | refused at |", "| --- | --- | --- | --- |"]
-        places = [place_of(root, bug) for bug in bugs]
-        lacking += [f"{crate}: {name}: no bug" for name in without_bug(root, crate, set(places))]
-        for number, (bug, place) in enumerate(zip(bugs, places)):
-            where, counts = outcome(root, copy, bug, said.get((crate, number)))
+        for bug in bugs:
+            bug.place = place_of(root, bug)
+        lacking += [f"{crate}: {name}: no bug" for name in without_bug(root, crate, {bug.place for bug in bugs})]
+        said = plant(copy, crate, bugs)
+        for number, bug in enumerate(bugs):
+            where, counts = outcome(root, copy, bug, said.get(number))
             survived += not counts
-            print(f"{crate}: {place}: {bug.what}: {where}", flush=True)
+            print(f"{crate}: {bug.place}: {bug.what}: {where}", flush=True)
             edits = "; ".join(f"{code(old)} → {code(new)}" for old, new in bug.pairs)
-            text.append(f"| `{place}` | {bug.what} | {edits} | {where} |")
+            text.append(f"| `{bug.place}` | {bug.what} | {edits} | {where} |")
         pages[crate] = "\n".join(text) + "\n"
     tried = sum(len(bugs) for bugs in every.values())
     print("\n".join([*lacking, f"{tried} planted, {survived} survived, {len(lacking)} functions without a bug"]))
