@@ -13,11 +13,13 @@ import sys
 
 HEAD = """# Planted bugs
 
-Bugs that were planted one at a time, and where each was refused. The bugs stand in `docs/src/planted/bugs/`, at least one
-for each function of `src/` that has a body, and this page is what `docs/src/planted/run` made of them. Planted in a crate,
-a bug is refused by that crate's own check, with the crates above left out of it; told are the file and the prover's name
-of the first need that could not be met. Where the check passes, as where a contract cannot say what a program prints, the
-bug must show in a crate above, in what a program writes or in a test, and the table says in which.
+Bugs that were planted, and where each was refused. They stand in `docs/src/planted/bugs/`, at least one for each function
+of `src/` that does something, and this page is what `docs/src/planted/run` made of them: alone, or together with bugs of
+other functions of the crate, at most one in each, since a function is proved by the contracts of those that it calls and
+not by their bodies. A bug is refused by the check of its own crate, with the crates above left out of it; told are the
+file and the prover's name of the first need that could not be met, and 'by a name' where that is only a name in a proof
+file which the bug takes away. Where the check passes, as where a contract cannot say what a program prints, the bug must
+show in a crate above, in what a program writes or in a test, and the table says in which.
 """
 
 
