@@ -42,6 +42,12 @@ class Bug:
         return text
 
 
+def rests_on(root):
+    """The crates in the order of crates.txt, each with those that it names."""
+    lines = [line for line in open(f"{root}/crates.txt") if ":" in line and line[0] != "#"]
+    return {line.split(":")[0].split()[0]: line.split(":")[1].split() for line in lines}
+
+
 def bugs_of(folder, crate):
     path = f"{folder}/{crate}.txt"
     if not os.path.exists(path):
@@ -112,8 +118,6 @@ def plant_alone(copy, crate, bugs):
 
 
 REFUSED_AT = r"^(?:note: )?(?:\./)?((?:src|proofs)/[\w/]+\.\w+):(\d+):\d+: (?:error|it is not proved|`search`)"
-
-
 UNREAD_AT = r"^(?:\./)?(src/[\w/]+\.\w+):(\d+):\d+: error\["
 
 
@@ -191,8 +195,7 @@ def shown_by(root, copy, crate):
 
 def below(root, crate):
     """The crates that a crate rests on, and the crate."""
-    rests = {line.split(":")[0].split()[0]: line.split(":")[1].split() for line in open(f"{root}/crates.txt") if ":" in line and line[0] != "#"}
-    found, left = set(), [crate]
+    rests, found, left = rests_on(root), set(), [crate]
     while left:
         found.add(left[-1])
         left += rests[left.pop()]
@@ -245,8 +248,7 @@ def sections(table):
 
 def main():
     root, copy, table, wanted = sys.argv[1], sys.argv[2], sys.argv[3], sys.argv[4:]
-    crates = [line.split(":")[0].split()[0] for line in open(f"{root}/crates.txt") if ":" in line and line[0] != "#"]
-    crates.remove("cases")
+    crates = [crate for crate in rests_on(root) if crate != "cases"]
     every = {crate: bugs_of(f"{root}/docs/src/planted/bugs", crate) for crate in wanted or crates}
     every = {crate: bugs for crate, bugs in every.items() if bugs}
     for crate, bugs in every.items():
