@@ -2,8 +2,10 @@
 use kinds::whole::{Whole, WholeCell};
 use lines::page::Page;
 use lines::reading::{MOST_NUMBERS, read_line};
+use runs::run::run;
+use runs::step::Step;
 use sessions::session::{OUTPUT, Session};
-use sheets::posting::Verdict;
+use sheets::call::{Call, Success, number_of};
 use sheets::sheet::{Sheet, check};
 
 // A cell that no sheet writes.
@@ -25,7 +27,7 @@ fn opens_in(len: usize) -> bool {
             && cells.iter().all(|cell| *cell == MARK);
     }
     told == Ok(())
-        && posted == Ok(Verdict::Taken)
+        && posted == Ok(Success::Done)
         && moves == 1
         && cells[15..].iter().all(|cell| *cell == MARK)
 }
@@ -33,6 +35,31 @@ fn opens_in(len: usize) -> bool {
 #[test]
 fn cells_of_every_length(rt: HostRuntime) {
     assert!(rt; (0..21).all(|len| opens_in(len)));
+}
+
+// A sheet of two unknowns is taken up again in at least 15 cells; with fewer there is none. No cell is written.
+fn resumes_in(len: usize) -> bool {
+    let mut cells = [MARK; 20];
+    let mut opened = Sheet::<Whole>::open(&mut cells, 2, 9);
+    let posted = opened.post(&[3, 5, 1]);
+    let outline = opened.outline();
+    let before = cells;
+    let mut plan = [7; 2];
+    let mut sheet = Sheet::<Whole>::empty(&mut cells[..len.min(20)]);
+    let resumed = sheet.resume(outline).map_err(|fault| fault.number());
+    let picked = sheet.pick(&[2], &mut plan).map_err(|fault| fault.number());
+    if posted != Ok(Success::Done) || cells != before {
+        return false;
+    }
+    if len < 15 {
+        return resumed == Err(13) && picked == Err(8) && plan == [7; 2];
+    }
+    resumed == Ok(()) && picked == Ok(()) && plan == [-13, 8]
+}
+
+#[test]
+fn resuming_in_cells_of_every_length(rt: HostRuntime) {
+    assert!(rt; (0..21).all(|len| resumes_in(len)));
 }
 
 // Words for another number of unknowns, a choice for another number of moves, and a plan of another length are refused
@@ -54,12 +81,37 @@ fn counts_are_tested(len: usize) -> bool {
     let short = sheet
         .pick(&choice[..1], &mut plan[..len])
         .map_err(|fault| fault.number());
-    posted == Ok(Verdict::Taken) && long == Err(9) && short == Err(9) && plan == [7; 6]
+    posted == Ok(Success::Done) && long == Err(9) && short == Err(9) && plan == [7; 6]
 }
 
 #[test]
 fn words_of_every_length(rt: HostRuntime) {
     assert!(rt; (0..7).all(|len| counts_are_tested(len)));
+}
+
+// A picking of the choice (4, 6), with no page.
+fn picking(words: &mut [i32]) -> Step<'_> {
+    Step {
+        call: Call::Pick(&[4, 6]),
+        words,
+        page: Page::new(Default::default()),
+        answer: Ok(Success::Implied),
+    }
+}
+
+// Three pickings in one run, each into words of its own.
+#[test]
+fn words_of_each_picking_in_a_run(rt: HostRuntime) {
+    let mut cells = [MARK; 15];
+    let mut short = [7; 1];
+    let mut exact = [7; 2];
+    let mut long = [7; 3];
+    let steps: &mut [Step] = &mut [picking(&mut short), picking(&mut exact), picking(&mut long)];
+    run::<Whole>(&mut cells, 2, 9, steps);
+    assert_eq!(rt; number_of(steps[0].answer), 9);
+    assert_eq!(rt; number_of(steps[1].answer), 0);
+    assert_eq!(rt; number_of(steps[2].answer), 9);
+    assert!(rt; short == [7] && exact == [4, 6] && long == [7; 3]);
 }
 
 // A new sheet of two unknowns is shown in three lines of 21 bytes. A page with less room is kept, byte for byte.

@@ -1,33 +1,46 @@
 // Examples of sessions: lines in, and all that is written for them.
-use input::Cutter;
-use lines::reading::MOST_NUMBERS;
-use sessions::session::{OUTPUT, Session};
+use std::alloc::Global;
+use stream::answer_lines;
 
-// What is expected behind what is written for a line; None where something else is written.
-fn reply<'a>(
-    session: &mut Session,
-    number: i32,
-    line: &[u8],
-    expected: &'a [u8],
-) -> Option<&'a [u8]> {
-    let mut out = [0u8; OUTPUT];
-    let mut words = [0i32; MOST_NUMBERS];
-    let n = session.call(number, line, &mut out, &mut words).ok()?;
-    expected.strip_prefix(&out[..n])
+// Whether the lines are answered by exactly these bytes.
+fn answers(alloc: Global, lines: &[u8], expected: &[u8]) -> bool {
+    let mut input = lines;
+    let mut written = Vec::new(alloc);
+    answer_lines(&mut input, &mut written).is_ok() && written.as_slice() == expected
 }
 
-// Whether a new session answers the lines by exactly these bytes.
-fn answers(lines: &[u8], expected: &[u8]) -> bool {
-    let mut session = Session::new();
-    let mut number: i32 = 0;
-    let mut expected = expected;
-    let mut answered = |line: &[u8]| -> Result<(), ()> {
-        number = number.saturating_add(1);
-        expected = reply(&mut session, number, line, expected).ok_or(())?;
-        Ok(())
-    };
-    let told = Cutter::new().each_line(lines, &mut answered);
-    told == Ok(()) && expected.is_empty()
+// The example of docs/session.md.
+#[test]
+fn a_sheet_is_opened_shown_picked_from_and_contradicted(rt: HostRuntime) {
+    assert!(rt;
+        answers(
+            rt.alloc(),
+            b"0103000000000000000200000001\n0203000000030000000500000001\n0500\n040100000002\n0203000000010000000100000004\n",
+            b"81030000000100000000FFFFFFFF\n81030000000200000000FFFFFFFF\n81030000000300000000FFFFFFFF\n8302FFFFFFFD00000002\n8402FFFFFFFB00000003\n81030000000400000000FFFFFFFF\n8202FFFFFFF300000008\n81030000000500000010FFFFFFFF\n",
+        )
+    );
+}
+
+// A last line that lacks its line feed counts if it has a byte.
+#[test]
+fn a_last_line_needs_no_line_feed(rt: HostRuntime) {
+    assert!(rt;
+        answers(
+            rt.alloc(),
+            b"0103000000000000000100000000\n0500",
+            b"81030000000100000000FFFFFFFF\n81030000000200000000FFFFFFFF\n830100000000\n840100000001\n",
+        )
+    );
+    assert!(rt; answers(rt.alloc(), b"", b""));
+}
+
+// An output of 10 bytes has no room for an answer.
+#[test]
+fn a_full_output_is_an_error(rt: HostRuntime) {
+    let mut input: &[u8] = b"0500\n";
+    let mut bytes = [0u8; 10];
+    let mut output: &mut [u8] = &mut bytes;
+    assert!(rt; answer_lines(&mut input, &mut output).is_err());
 }
 
 // 3x + 5y = 1. Were a quotient rounded toward zero, the plan would be (2, -1); were the last move dropped in place of
@@ -36,6 +49,7 @@ fn answers(lines: &[u8], expected: &[u8]) -> bool {
 fn a_sheet_shows_its_solution(rt: HostRuntime) {
     assert!(rt;
         answers(
+            rt.alloc(),
             b"0103000000000000000200000001\n0203000000030000000500000001\n0500\n",
             b"81030000000100000000FFFFFFFF\n81030000000200000000FFFFFFFF\n81030000000300000000FFFFFFFF\n8302FFFFFFFD00000002\n8402FFFFFFFB00000003\n",
         )
@@ -47,6 +61,7 @@ fn a_sheet_shows_its_solution(rt: HostRuntime) {
 fn equations_are_taken_together(rt: HostRuntime) {
     assert!(rt;
         answers(
+            rt.alloc(),
             b"0103000000000000000200000001\n0203000000010000000100000000\n020300000001FFFFFFFF00000001\n",
             b"81030000000100000000FFFFFFFF\n81030000000200000000FFFFFFFF\n81030000000300000010FFFFFFFF\n",
         )
@@ -58,6 +73,7 @@ fn equations_are_taken_together(rt: HostRuntime) {
 fn an_overflow_leaves_the_sheet(rt: HostRuntime) {
     assert!(rt;
         answers(
+            rt.alloc(),
             b"0103000000000000000200000001\n0203000000018000000100000000\n0203000000010000000100000000\n0500\n0203000000010000000000000000\n0500\n",
             b"81030000000100000000FFFFFFFF\n81030000000200000000FFFFFFFF\n8103000000030000000FFFFFFFFF\n81030000000400000000FFFFFFFF\n83020000000000000000\n840280000001FFFFFFFF\n81030000000500000000FFFFFFFF\n81030000000600000000FFFFFFFF\n83020000000000000000\n",
         )
@@ -68,6 +84,7 @@ fn an_overflow_leaves_the_sheet(rt: HostRuntime) {
 fn a_weekday_sheet_works_in_remainders(rt: HostRuntime) {
     assert!(rt;
         answers(
+            rt.alloc(),
             b"01030000000700000002000000FF\n0203000000030000000500000001\n0500\n0203000000070000000000000000\n",
             b"81030000000100000000FFFFFFFF\n81030000000200000000FFFFFFFF\n81030000000300000000FFFFFFFF\n83020000000500000000\n84020000000500000004\n8103000000040000000E00000004\n",
         )
@@ -79,6 +96,7 @@ fn a_weekday_sheet_works_in_remainders(rt: HostRuntime) {
 fn refusals_keep_the_session(rt: HostRuntime) {
     assert!(rt;
         answers(
+            rt.alloc(),
             b"0500\n0103000000060000000200000001\n0103000000000000001900000001\n0103000000000000000200010000\n010200000000FFFFFFFF\n0103000000000000000100000000\n02010000000A\n0600\n0103000000000000000080000000\n0500\n",
             b"81030000000100000008FFFFFFFF\n8103000000020000000A00000004\n8103000000030000000B0000000C\n8103000000040000000C00000014\n8103000000050000000900000002\n81030000000600000000FFFFFFFF\n8103000000070000000900000002\n8103000000080000000600000000\n8103000000090000000700000014\n81030000000A00000000FFFFFFFF\n830100000000\n840100000001\n",
         )
@@ -90,6 +108,7 @@ fn refusals_keep_the_session(rt: HostRuntime) {
 fn a_sheet_is_picked_from_and_cleared(rt: HostRuntime) {
     assert!(rt;
         answers(
+            rt.alloc(),
             b"0103000000000000000200000001\n0203000000030000000500000001\n040100000002\n0400\n0300\n030100000000\n0500\n",
             b"81030000000100000000FFFFFFFF\n81030000000200000000FFFFFFFF\n81030000000300000000FFFFFFFF\n8202FFFFFFF300000008\n8103000000040000000900000002\n81030000000500000000FFFFFFFF\n8103000000060000000900000002\n81030000000700000000FFFFFFFF\n83020000000000000000\n84020000000100000000\n84020000000000000001\n",
         )

@@ -14,16 +14,16 @@ use Rattle.faults.specs.Faults.{number_fault, line_fault}
 use Rattle.lines.specs.Line.{numbers, refusal}
 use Rattle.costing.specs.declared.Refusal.{Refusal}
 use Rattle.costing.specs.declared.Refusal.TheVariants.{Equation as InEquation, Plan as InPlan, Count, Overflow}
-use Rattle.costing.specs.Costing.{balance_of, counts_fit, judged, judgement, unless, verdict, refusal_number, answer, LinesMeet, Means}
+use Rattle.costing.specs.Costing.{equation_frame, plan_frame, balance_of, counts_fit, is_balanced, judgement, unless, verdict, refusal_number, answer, LinesMeet, Means}
 use Rattle.costing.proofs.Sums.{running_from}
 
 unless_ok : (o : Option LineFault) (how : LineFault → Refusal) (rest : Result Bool Refusal) (b : Bool) → unless o how rest ≡ Ok b → rest ≡ Ok b
 unless_ok None how rest b e = e
 unless_ok (Some f) how rest b e = absurd cc
 
-judged_ok : (o : Option Whole) (b : Bool) → judged o ≡ Ok b → (s : Whole) × ((o ≡ Some s) × (eqb (nat_abs s.value) 0 ≡ b))
-judged_ok None b e = absurd cc
-judged_ok (Some s) b e = (s, (refl, cc))
+balanced_ok : (o : Option Whole) (b : Bool) → is_balanced o ≡ Ok b → (s : Whole) × ((o ≡ Some s) × (eqb (nat_abs s.value) 0 ≡ b))
+balanced_ok None b e = absurd cc
+balanced_ok (Some s) b e = (s, (refl, cc))
 
 counted_ok : (t : Bool) (rest : Result Bool Refusal) (b : Bool) → cond t rest (Err Count) ≡ Ok b → rest ≡ Ok b
 counted_ok true rest b e = e
@@ -33,8 +33,8 @@ counted_ok false rest b e = absurd cc
 summed : (e p : List ℕ) (b : Bool) → verdict e p ≡ Ok b → (s : Whole) × ((s.value ≡ neg_ℤ (equation_of (length (numbers p)) (numbers e)).right +ℤ dot (equation_of (length (numbers p)) (numbers e)).coefficients (numbers p)) × (eqb (nat_abs s.value) 0 ≡ b))
 summed e p b v =
     let q = equation_of (length (numbers p)) (numbers e) in
-    let j : judgement (numbers e) (numbers p) ≡ Ok b = unless_ok (refusal (130 ∷ []) p) InPlan (judgement (numbers e) (numbers p)) b (unless_ok (refusal (2 ∷ []) e) InEquation (unless (refusal (130 ∷ []) p) InPlan (judgement (numbers e) (numbers p))) b v) in
-    let k = judged_ok (balance_of q (numbers p)) b (counted_ok (counts_fit (length (numbers e)) (length (numbers p))) (judged (balance_of q (numbers p))) b j) in
+    let j : judgement (numbers e) (numbers p) ≡ Ok b = unless_ok (refusal (plan_frame ∷ []) p) InPlan (judgement (numbers e) (numbers p)) b (unless_ok (refusal (equation_frame ∷ []) e) InEquation (unless (refusal (plan_frame ∷ []) p) InPlan (judgement (numbers e) (numbers p))) b v) in
+    let k = balanced_ok (balance_of q (numbers p)) b (counted_ok (counts_fit (length (numbers e)) (length (numbers p))) (is_balanced (balance_of q (numbers p))) b j) in
     (k.0, (running_from (neg_ℤ q.right) q.coefficients (numbers p) k.0 k.1.0, k.1.1))
 
 met : (e p : List ℕ) → verdict e p ≡ Ok true → LinesMeet e p

@@ -2,12 +2,12 @@
 
 #![tactic(auto)]
 
-ghost use Rattle.std.specs.Prelude.{◌≡◌, ◌+◌, false, [], ◌∷◌, length, Some, None, MatchResult};
-ghost use Rattle.kinds.specs.Equation.{equation_of};
+ghost use Rattle.std.specs.Prelude.{◌≡◌, ◌+◌, false, [], ◌∷◌, length, None, IfOk};
+ghost use Rattle.std.specs.Result.{result_err};
 ghost use Rattle.lines.specs.Hex.{find};
 ghost use Rattle.lines.specs.Line.{is_lowest, numbers, refusal};
-ghost use Rattle.costing.specs.Costing.{balance_of, judgement, verdict, refusal_number, answer, Means};
-ghost use Rattle.costing.specs.Samples.{Readings, NumbersRead, TooLong, Verdicts, NoWrong};
+ghost use Rattle.costing.specs.Costing.{lines_balance, judgement, verdict, refusal_number, answer, Means};
+ghost use Rattle.costing.specs.Samples.{Verdicts, NoWrong};
 
 use faults::LineFault;
 use kinds::kind::Kind;
@@ -69,7 +69,8 @@ fn numbers_of<'a>(
     frame: u8,
     words: &'a mut [i32; MOST_NUMBERS],
 ) -> Result<Numbers<'a>, LineFault>
-    ensures cases { MatchResult result (λ line. (refusal (frame ∷ []) bytes.now ≡ None) × (line.words.now ≡ numbers bytes.now)) (λ fault. refusal (frame ∷ []) bytes.now ≡ Some fault) }
+    ensures fault { result_err result ≡ refusal (frame ∷ []) bytes.now }
+    ensures words { IfOk result (λ line. line.words.now ≡ numbers bytes.now) }
 {
     let line = read_line(bytes, &[frame], words)?;
     Ok(Numbers {
@@ -80,7 +81,7 @@ fn numbers_of<'a>(
 // The sum of coefficient × entry less the right side, as a running sum in the whole kind; None where one leaves it.
 fn balance(equation: &Numbers, plan: &Numbers) -> Option<Whole>
     requires { length equation.now.words.now ≡ length plan.now.words.now + 1 }
-    ensures { result ≡ balance_of (equation_of (length plan.now.words.now) equation.now.words.now) plan.now.words.now }
+    ensures { result ≡ lines_balance equation.now.words.now plan.now.words.now }
 {
     let n = plan.words.len();
     let mut sum = whole(equation.words[n]).negative();
@@ -90,12 +91,13 @@ fn balance(equation: &Numbers, plan: &Numbers) -> Option<Whole>
     Some(sum)
 }
 
-// Whether the plan meets the equation, by the numbers of their lines.
+// Whether the plan meets the equation, by the numbers of their lines. The equation's line has one more than the plan's,
+// so a plan has under MOST_NUMBERS.
 fn judge(equation: &Numbers, plan: &Numbers) -> Result<bool, Refusal>
     ensures { result ≡ judgement equation.now.words.now plan.now.words.now }
 {
     let n = plan.words.len();
-    if !(1..=24).contains(&n) || equation.words.len() != n + 1 {
+    if !(1..MOST_NUMBERS).contains(&n) || equation.words.len() != n + 1 {
         return Err(Refusal::Count);
     }
     let sum = balance(equation, plan).ok_or(Refusal::Overflow)?;
@@ -133,15 +135,9 @@ pub fn costing_meets(equation: &[u8], plan: &[u8]) -> i32
     answer_of(meets(equation, plan))
 }
 
-// What the definitions come to on sample lines: a reading's answers with their places, a line's numbers, and the
-// costing call's answers, all as the tables of the answers have them. A line of 26 numbers would not read back, and no
-// wrong answer of the costing call means what an answer should. What this function answers means nothing.
-pub fn samples_stand() -> u8
-    ensures readings { Readings }
-    ensures numbers { NumbersRead }
-    ensures too_long { TooLong }
+// What the definitions come to on sample lines: the costing call's answers, as the table of the answers has them. No
+// wrong answer means what an answer should.
+pub fn samples_stand()
     ensures verdicts { Verdicts }
     ensures no_wrong { NoWrong }
-{
-    0
-}
+{}

@@ -10,7 +10,8 @@ each text place (number ∷ numbers) = text place number ++ each text (place + 1
 -- a coefficient with its unknown: from the second on, its sign joins it to those before
 abbrev pub term : ℕ → ℤ → List ℕ
 term unknown (pos n) = cond (nat_lt 1 unknown) (codes " + ") [] ++ decimal n ++ codes " x" ++ decimal unknown
-term unknown (negsuc n) = cond (nat_lt 1 unknown) (codes " - ") (codes "-") ++ decimal (n + 1) ++ codes " x" ++ decimal unknown
+term unknown (negsuc n) =
+    cond (nat_lt 1 unknown) (codes " - ") (codes "-") ++ decimal (n + 1) ++ codes " x" ++ decimal unknown
 
 -- the coefficients of an equation
 abbrev pub side : List ℤ → List ℕ
@@ -21,7 +22,9 @@ side (number ∷ numbers) = each term 1 (number ∷ numbers)
 abbrev pub equation : List ℤ → List ℕ
 equation [] = codes "no numbers"
 equation (number ∷ numbers) =
-    side (take (length numbers) (number ∷ numbers)) ++ codes " = " ++ signed_decimal (slice_index_or (number ∷ numbers) (length numbers) (pos 0))
+    side (take (length numbers) (number ∷ numbers))
+    ++ codes " = "
+    ++ signed_decimal (slice_index_or (number ∷ numbers) (length numbers) (pos 0))
 
 -- a comma from the second place on
 abbrev pub comma : ℕ → List ℕ

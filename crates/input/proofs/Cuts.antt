@@ -1,11 +1,12 @@
 -- A text cut at its first line feed, where a search for it stops, and over chunks.
-use Rattle.std.proofs.Common.{◌≡◌, ℕ, ◌+◌, ◌-◌, ◌≤◌, min, Bool, true, false, cond, eqb, ltb, List, [], ◌∷◌, ◌++◌, length, take, drop, Option, Result, Some, None, Ok, Err, position, option_map, suc, suc-add, sym, refl, ap, subst, inl, inr, ◌∙◌, arith}
-use Rattle.std.specs.List.{position_or_len, FoldsTo}
+use Rattle.std.proofs.Common.{◌≡◌, ℕ, ◌+◌, ◌-◌, ◌≤◌, min, Bool, true, false, cond, eqb, ltb, List, [], ◌∷◌, ◌++◌, length, take, drop, Option, Some, None, position, option_map, zero, suc, suc-add, sym, refl, ap, ◌∙◌, arith}
+use Rattle.std.specs.List.{position_or_len}
 use Rattle.std.proofs.lemmas.Grind.{common_steps}
 use Rattle.std.proofs.lemmas.List.{take_all, take_min, append-nil, append_assoc}
 use Rattle.std.proofs.Math.Seq.{take-append-add}
 use Rattle.std.proofs.lemmas.Bool.Decides.{nat_tests}
-use Rattle.input.specs.Cutting.{line, ended, rest, lines, left, Handed}
+use Rattle.input.specs.Cutting.{line, ended, rest, lines, left}
+use Rattle.input.specs.declared.TheConstants.{KEEP}
 
 -- whether a byte is a line feed
 abbrev pub is_feed : ℕ → Bool
@@ -65,12 +66,12 @@ rest_past b xs =
     ]
 
 -- the lines of a text that has a line feed: the first, and those of what follows it
-pub lines_found : (held xs ys : List ℕ) → rest xs ≡ Some ys → lines held xs ≡ take 205 (held ++ line xs) ∷ lines [] ys
+pub lines_found : (held xs ys : List ℕ) → rest xs ≡ Some ys → lines held xs ≡ take KEEP (held ++ line xs) ∷ lines [] ys
 lines_found held [] ys = λ e. cc
 lines_found held (b ∷ xs) ys =
-    elim (eqb b 10) as (λ v. after v b xs ≡ Some ys → cond v (take 205 held ∷ lines [] xs) (lines (held ++ b ∷ []) xs) ≡ take 205 (held ++ cond v [] (b ∷ line xs)) ∷ lines [] ys) [
-      | true ↦ λ e. let same : xs ≡ ys = cc in ap (λ (t : List ℕ). take 205 held ∷ lines [] t) same ∙ ap (λ (t : List ℕ). take 205 t ∷ lines [] ys) (sym (append-nil held))
-      | false ↦ λ e. lines_found (held ++ b ∷ []) xs ys (sym (rest_past b xs) ∙ e) ∙ ap (λ (t : List ℕ). take 205 t ∷ lines [] ys) (append_assoc held (b ∷ []) (line xs))
+    elim (eqb b 10) as (λ v. after v b xs ≡ Some ys → cond v (take KEEP held ∷ lines [] xs) (lines (held ++ b ∷ []) xs) ≡ take KEEP (held ++ cond v [] (b ∷ line xs)) ∷ lines [] ys) [
+      | true ↦ λ e. let same : xs ≡ ys = cc in ap (λ (t : List ℕ). take KEEP held ∷ lines [] t) same ∙ ap (λ (t : List ℕ). take KEEP t ∷ lines [] ys) (sym (append-nil held))
+      | false ↦ λ e. lines_found (held ++ b ∷ []) xs ys (sym (rest_past b xs) ∙ e) ∙ ap (λ (t : List ℕ). take KEEP t ∷ lines [] ys) (append_assoc held (b ∷ []) (line xs))
     ]
 
 pub left_found : (held xs ys : List ℕ) → rest xs ≡ Some ys → left held xs ≡ left [] ys
@@ -85,17 +86,17 @@ left_found held (b ∷ xs) ys =
 pub lines_missed : (held xs : List ℕ) → rest xs ≡ None → lines held xs ≡ []
 lines_missed held [] = λ e. refl
 lines_missed held (b ∷ xs) =
-    elim (eqb b 10) as (λ v. after v b xs ≡ None → cond v (take 205 held ∷ lines [] xs) (lines (held ++ b ∷ []) xs) ≡ []) [
+    elim (eqb b 10) as (λ v. after v b xs ≡ None → cond v (take KEEP held ∷ lines [] xs) (lines (held ++ b ∷ []) xs) ≡ []) [
       | true ↦ λ e. cc
       | false ↦ λ e. lines_missed (held ++ b ∷ []) xs (sym (rest_past b xs) ∙ e)
     ]
 
-pub left_missed : (held xs : List ℕ) → rest xs ≡ None → left held xs ≡ take 205 (held ++ line xs)
-left_missed held [] = λ e. ap (take 205) (sym (append-nil held))
+pub left_missed : (held xs : List ℕ) → rest xs ≡ None → left held xs ≡ take KEEP (held ++ line xs)
+left_missed held [] = λ e. ap (take KEEP) (sym (append-nil held))
 left_missed held (b ∷ xs) =
-    elim (eqb b 10) as (λ v. after v b xs ≡ None → cond v (left [] xs) (left (held ++ b ∷ []) xs) ≡ take 205 (held ++ cond v [] (b ∷ line xs))) [
+    elim (eqb b 10) as (λ v. after v b xs ≡ None → cond v (left [] xs) (left (held ++ b ∷ []) xs) ≡ take KEEP (held ++ cond v [] (b ∷ line xs))) [
       | true ↦ λ e. cc
-      | false ↦ λ e. left_missed (held ++ b ∷ []) xs (sym (rest_past b xs) ∙ e) ∙ ap (take 205) (append_assoc held (b ∷ []) (line xs))
+      | false ↦ λ e. left_missed (held ++ b ∷ []) xs (sym (rest_past b xs) ∙ e) ∙ ap (take KEEP) (append_assoc held (b ∷ []) (line xs))
     ]
 
 -- the next line begins with nothing held
@@ -103,49 +104,52 @@ pub left_on : (held xs ys new : List ℕ) → rest xs ≡ Some ys → new ≡ []
 left_on held xs ys new e n = ap (λ (t : List ℕ). left t ys) n ∙ sym (left_found held xs ys e)
 
 -- the lines of a text that has a line feed, where others are those that follow the first
-lines_with : (old xs ys new : List ℕ) (others : List (List ℕ)) → rest xs ≡ Some ys → new ≡ [] → lines new ys ≡ others → lines old xs ≡ take 205 (old ++ line xs) ∷ others
+lines_with : (old xs ys new : List ℕ) (others : List (List ℕ)) → rest xs ≡ Some ys → new ≡ [] → lines new ys ≡ others → lines old xs ≡ take KEEP (old ++ line xs) ∷ others
 lines_with old xs ys new others e n is =
-    let one : List ℕ = take 205 (old ++ line xs) in
+    let one : List ℕ = take KEEP (old ++ line xs) in
     lines_found old xs ys e ∙ ap (λ (t : List (List ℕ)). one ∷ t) (ap (λ (t : List ℕ). lines t ys) (sym n) ∙ is)
 
-module _ {F E : Type 0} (Call : F → List ℕ → Result (Unit {0}) E → F → Type 0) (f : F) (old xs : List ℕ) where
-  -- the call at the first line is done, and those at the others end in r
-  pub handed_on : (g : F) (ys new : List ℕ) (r : Result (Unit {0}) E) (last : F) (held : List ℕ) → rest xs ≡ Some ys → new ≡ [] → Call f (take 205 (old ++ line xs)) (Ok tt) g
-      → Handed Call g (lines new ys) r last held → Handed Call f (lines old xs) r last held
-  handed_on g ys new r last held e n call others = record {
-    taken = take 205 (old ++ line xs) ∷ others.taken;
-    after = others.after;
-    calls = (g, call, others.calls);
-    ends = elim others.ends [
-      | inl (all, ok, is) ↦ inl (lines_with old xs ys new others.taken e n all, ok, is)
-      | inr (rest, error, split, failed, last_call) ↦ inr (rest, error, lines_with old xs ys new (others.taken ++ held ∷ rest) e n split, failed, last_call)
-    ];
-  }
+-- of what is held only the first bytes count
+take_front : (k : ℕ) (xs ys : List ℕ) → take k (take k xs ++ ys) ≡ take k (xs ++ ys)
+take_front zero xs ys = refl
+take_front (suc k) [] ys = refl
+take_front (suc k) (b ∷ xs) ys = ap (λ (t : List ℕ). b ∷ t) (take_front k xs ys)
 
-  -- the call at the first line refuses it
-  pub handed_until : (ys : List ℕ) (error : E) (r : Result (Unit {0}) E) (last : F) (held : List ℕ) → rest xs ≡ Some ys → r ≡ Err error → held ≡ take 205 (old ++ line xs)
-      → Call f (take 205 (old ++ line xs)) (Err error) last → Handed Call f (lines old xs) r last held
-  handed_until ys error r last held e failed kept call = record {
-    taken = [];
-    after = f;
-    calls = refl;
-    ends = inr (lines [] ys, error, lines_found old xs ys e ∙ ap (λ (t : List ℕ). t ∷ lines [] ys) (sym kept), failed, subst (λ (t : List ℕ). Call f t (Err error) last) (sym kept) call);
-  }
+held_same : (h i xs : List ℕ) → take KEEP h ≡ take KEEP i → take KEEP (h ++ xs) ≡ take KEEP (i ++ xs)
+held_same h i xs e = sym (take_front KEEP h xs) ∙ ap (λ (t : List ℕ). take KEEP (t ++ xs)) e ∙ take_front KEEP i xs
 
-  -- there is no line
-  pub handed_all : (held : List ℕ) → rest xs ≡ None → Handed Call f (lines old xs) (Ok tt) f held
-  handed_all held e = record { taken = []; after = f; calls = refl; ends = inl (lines_missed old xs e, refl, refl) }
+lines_same : (h i xs : List ℕ) → take KEEP h ≡ take KEEP i → lines h xs ≡ lines i xs
+lines_same h i [] e = refl
+lines_same h i (b ∷ xs) e =
+    elim (eqb b 10) as (λ v. cond v (take KEEP h ∷ lines [] xs) (lines (h ++ b ∷ []) xs) ≡ cond v (take KEEP i ∷ lines [] xs) (lines (i ++ b ∷ []) xs)) [
+      | true ↦ ap (λ (t : List ℕ). t ∷ lines [] xs) e
+      | false ↦ lines_same (h ++ b ∷ []) (i ++ b ∷ []) xs (held_same h i (b ∷ []) e)
+    ]
 
--- what no call changes is in the end as it was
-module _ {F E N : Type 0} (Call : F → List ℕ → Result (Unit {0}) E → F → Type 0) (part : F → N) (same : (p : F) (x : List ℕ) (s : Result (Unit {0}) E) (q : F) → Call p x s q → part p ≡ part q) where
-  taken_keep : (xs : List (List ℕ)) (f g : F) → FoldsTo (λ p x q. Call p x (Ok tt) q) f xs g → part f ≡ part g
-  taken_keep [] f g is = ap part is
-  taken_keep (x ∷ xs) f g (j, call, others) = same f x (Ok tt) j call ∙ taken_keep xs j g others
+left_same : (h i xs : List ℕ) → take KEEP h ≡ take KEEP i → left h xs ≡ left i xs
+left_same h i [] e = e
+left_same h i (b ∷ xs) e =
+    elim (eqb b 10) as (λ v. cond v (left [] xs) (left (h ++ b ∷ []) xs) ≡ cond v (left [] xs) (left (i ++ b ∷ []) xs)) [
+      | true ↦ refl
+      | false ↦ left_same (h ++ b ∷ []) (i ++ b ∷ []) xs (held_same h i (b ∷ []) e)
+    ]
 
-pub handed_keeps : {F E N : Type 0} {Call : F → List ℕ → Result (Unit {0}) E → F → Type 0} {f : F} {xs : List (List ℕ)} {r : Result (Unit {0}) E} {last : F} {held : List ℕ} → Handed Call f xs r last held
-    → (part : F → N) → ((p : F) (x : List ℕ) (s : Result (Unit {0}) E) (q : F) → Call p x s q → part p ≡ part q) → part f ≡ part last
-handed_keeps {F} {E} {N} {Call} {f} {xs} {r} {last} {held} h part same =
-    taken_keep Call part same h.taken f h.after h.calls ∙ elim h.ends [
-      | inl (all, ok, is) ↦ sym (ap part is)
-      | inr (rest, error, split, failed, call) ↦ same h.after held (Err error) last call
+cut_again : (h : List ℕ) → take KEEP h ≡ take KEEP (take KEEP h)
+cut_again h = ap (take KEEP) (sym (append-nil h)) ∙ sym (take_front KEEP h []) ∙ ap (take KEEP) (append-nil (take KEEP h))
+
+-- the lines of two chunks are those of the first, and those of the second behind what is left of the first
+pub lines_append : (h xs ys : List ℕ) → lines h (xs ++ ys) ≡ lines h xs ++ lines (left h xs) ys
+lines_append h [] ys = lines_same h (take KEEP h) ys (cut_again h)
+lines_append h (b ∷ xs) ys =
+    elim (eqb b 10) as (λ v. cond v (take KEEP h ∷ lines [] (xs ++ ys)) (lines (h ++ b ∷ []) (xs ++ ys)) ≡ cond v (take KEEP h ∷ lines [] xs) (lines (h ++ b ∷ []) xs) ++ lines (cond v (left [] xs) (left (h ++ b ∷ []) xs)) ys) [
+      | true ↦ ap (λ (t : List (List ℕ)). take KEEP h ∷ t) (lines_append [] xs ys)
+      | false ↦ lines_append (h ++ b ∷ []) xs ys
+    ]
+
+pub left_append : (h xs ys : List ℕ) → left h (xs ++ ys) ≡ left (left h xs) ys
+left_append h [] ys = left_same h (take KEEP h) ys (cut_again h)
+left_append h (b ∷ xs) ys =
+    elim (eqb b 10) as (λ v. cond v (left [] (xs ++ ys)) (left (h ++ b ∷ []) (xs ++ ys)) ≡ left (cond v (left [] xs) (left (h ++ b ∷ []) xs)) ys) [
+      | true ↦ left_append [] xs ys
+      | false ↦ left_append (h ++ b ∷ []) xs ys
     ]

@@ -1,4 +1,4 @@
 -- The definitions that contracts of input cite, a file each.
 pub mod Cutting
-pub mod Chunks
+pub mod Reading
 pub mod Told

@@ -1,34 +1,48 @@
--- Samples of cutting, and what is handed on to a closure that notes it. Assumes nothing.
-use Rattle.std.specs.Prelude.{◌≡◌, ℕ, ◌+◌, ◌<◌, ◌≤◌, nat_lt, Bool, true, cond, List, [], ◌∷◌, ◌++◌, codes, length, take, replicate, ◌⊎◌, Option, Some, Result, Ok, Err, OnOk}
-use Rattle.input.specs.Cutting.{lines, left, Handed}
-use Rattle.input.specs.Chunks.{Fed}
+-- Samples of cutting, and what is handed to a sink that notes it. Assumes nothing.
+use Rattle.std.specs.Prelude.{◌≡◌, ℕ, ◌+◌, ◌<◌, ◌≤◌, false, List, [], ◌∷◌, ◌++◌, codes, length, take, replicate, Option, Some, Result, Ok, MatchResult}
+use Rattle.input.specs.Cutting.{line_feed, lines, left, every_line, Handed}
+use Rattle.input.specs.Reading.{LinesTaken}
+use Rattle.input.specs.declared.TheConstants.{KEEP}
 
 -- samples of cutting
 pub record CutTold : Type 0 where
   -- a line that two chunks make up, and one behind it
-  pub over_two : lines (codes "ab") (codes "c" ++ 10 ∷ codes "de" ++ 10 ∷ codes "f") ≡ codes "abc" ∷ (codes "de" ∷ [])
+  pub over_two :
+      lines (codes "ab") (codes "c" ++ line_feed ∷ codes "de" ++ line_feed ∷ codes "f")
+      ≡ codes "abc" ∷ (codes "de" ∷ [])
   -- what follows the last
-  pub kept : left (codes "ab") (codes "c" ++ 10 ∷ codes "f") ≡ codes "f"
-  -- a line of 206 bytes, and as many that do not end
-  pub long : lines [] (replicate 206 65 ++ 10 ∷ []) ≡ replicate 205 65 ∷ []
-  pub long_kept : left [] (replicate 206 65) ≡ replicate 205 65
+  pub kept : left (codes "ab") (codes "c" ++ line_feed ∷ codes "f") ≡ codes "f"
+  -- a line that is one byte too long, and as many that do not end
+  pub long : lines [] (replicate (KEEP + 1) 65 ++ line_feed ∷ []) ≡ replicate KEEP 65 ∷ []
+  pub long_kept : left [] (replicate (KEEP + 1) 65) ≡ replicate KEEP 65
   -- two lines of no byte
-  pub empty : lines [] (10 ∷ (10 ∷ [])) ≡ [] ∷ ([] ∷ [])
+  pub empty : lines [] (line_feed ∷ (line_feed ∷ [])) ≡ [] ∷ ([] ∷ [])
+  -- every line of an input, where the last lacks its line feed, and where it has it
+  pub unended : every_line (codes "ab" ++ line_feed ∷ codes "c") ≡ codes "ab" ∷ (codes "c" ∷ [])
+  pub ended : every_line (codes "ab" ++ line_feed ∷ codes "c" ++ line_feed ∷ []) ≡ codes "ab" ∷ (codes "c" ∷ [])
 
--- a call of a closure that notes the line, and refuses it where n were noted before
-abbrev pub NotesLine : ℕ → List (List ℕ) → List ℕ → Result (Unit {0}) (Unit {0}) → List (List ℕ) → Type 0
-NotesLine n noted x result new = (result ≡ cond (nat_lt (length noted) n) (Ok tt) (Err tt)) × (new ≡ noted ++ x ∷ [])
+-- a sink that notes the lines, and fails at one where n were noted before
+abbrev pub NotesLines : ℕ → List (List ℕ) → List (List ℕ) → Result (Unit {0}) (Unit {0}) → List (List ℕ) → Type 0
+NotesLines n noted xs result new =
+    (new ≡ noted ++ xs) × MatchResult result (λ _. length new ≤ n) (λ _. length new ≡ n + 1)
 
 -- handed lines, it has noted all of them, in order and once, or n and the next one, which is held
 abbrev pub LinesNoted : Type 0
-LinesNoted = (n : ℕ) (xs : List (List ℕ)) (result : Result (Unit {0}) (Unit {0})) (last : List (List ℕ)) (held : List ℕ) → Handed (NotesLine n) [] xs result last held
-    → ((length xs ≤ n) × (result ≡ Ok tt) × (last ≡ xs)) ⊎ ((n < length xs) × (result ≡ Err tt) × (last ≡ take (n + 1) xs) × (last ≡ take n xs ++ held ∷ []))
+LinesNoted =
+    (n : ℕ) (xs : List (List ℕ)) (result : Result (Unit {0}) (Unit {0})) (last : List (List ℕ)) (held : List ℕ)
+    → Handed (NotesLines n) [] xs result last held
+    → MatchResult result (λ _. (length xs ≤ n) × (last ≡ xs))
+    (λ _. (n < length xs) × (last ≡ take (n + 1) xs) × (last ≡ take n xs ++ held ∷ []))
 
--- a call of a closure that notes the bytes of the chunk and goes on
-abbrev pub NotesChunk : List ℕ → List ℕ → Result Bool (Unit {0}) → List ℕ → Type 0
-NotesChunk noted chunk result new = (result ≡ Ok true) × (new ≡ noted ++ chunk)
+-- a sink that notes all lines
+abbrev pub NotesAll : List (List ℕ) → List (List ℕ) → Result (Unit {0}) (Unit {0}) → List (List ℕ) → Type 0
+NotesAll noted xs result new = (result ≡ Ok tt) × (new ≡ noted ++ xs)
 
--- fed an input whose bytes are known, it has noted those that are not left, in order and once; none is left at the end
+-- of an input whose bytes are known it has noted every line, in order and once; where the reading failed, those that
+-- end in the bytes that were read
 abbrev pub BytesNoted : Type 0
-BytesNoted = (bytes : List ℕ) (result : Result (Unit {0}) (Unit {0})) (last : List ℕ) (left : Option (List ℕ)) → Fed NotesChunk [] (Some bytes) result last left
-    → (ys : List ℕ) × (left ≡ Some ys) × (bytes ≡ last ++ ys) × OnOk result (ys ≡ [])
+BytesNoted =
+    (bytes : List ℕ) (result : Result (Unit {0}) (Unit {0})) (last : List (List ℕ)) (left : Option (List ℕ))
+    → LinesTaken NotesAll (λ _. false) [] (Some bytes) result last left
+    → MatchResult result (λ _. (last ≡ every_line bytes) × (left ≡ Some []))
+    (λ _. (read rest : List ℕ) × (bytes ≡ read ++ rest) × (left ≡ Some rest) × (last ≡ lines [] read))

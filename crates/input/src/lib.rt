@@ -3,27 +3,27 @@
 #![tactic(auto)]
 
 ghost use Rattle.std.specs.Prelude.{◌≡◌, ◌<◌, ◌≤◌, ◌++◌, ◌==◌, [], length, take, position, option_copied, IfSome, OnOk};
-ghost use Rattle.std.specs.Fn.{CalledAt};
-ghost use Rattle.input.specs.Cutting.{line as line_part, rest, lines, left, Handed};
+ghost use Rattle.input.specs.Cutting.{line_feed, line as line_part, rest, lines, left, unended_line, Handed};
 ghost use Rattle.input.specs.Told.{CutTold, LinesNoted, BytesNoted};
 
+use sink::LineSink;
+use std::io;
 use std::marker::Model;
 
 pub mod reading;
+pub mod sink;
 
 // One byte more than the longest line has, so that a longer one is still seen to be too long.
 pub const KEEP: usize = 205;
 
-// Carries theorems alone; what it answers means nothing. Samples of cutting follow from the definitions. And by the
-// words of the clauses of `each_line` and `each_chunk`, a closure that notes what it is handed has noted, in order and
-// once, the lines up to the one that it refuses, or the bytes that are no longer left, and nothing else.
-pub fn cutting_told() -> u8
+// Carries theorems alone: samples of cutting follow from the definitions. And by the words of the clauses of
+// `each_line` and `take_lines`, a sink that notes what it is handed has noted, in order and once, the lines up to the
+// one that it refuses, or those of the bytes that are no longer left, and nothing else.
+pub fn cutting_told()
     ensures samples { CutTold }
     ensures lines { LinesNoted }
     ensures bytes { BytesNoted }
-{
-    0
-}
+{}
 
 // The line so far, at most its first 205 bytes: clauses see these bytes. An array with a length: the memory is fixed,
 // with no heap.
@@ -35,17 +35,18 @@ pub struct Cutter {
 
 impl Model for Cutter {
     ghost use Rattle.std.specs.Prelude.{◌≤◌, ℕ, List, take};
+    ghost use Rattle.input.specs.declared.TheConstants.{KEEP};
 
     ghost Value = { List ℕ };
 
     ghost view = { λ cutter. take cutter.len cutter.held };
 
-    ghost invariant = { λ cutter. cutter.len ≤ 205 };
+    ghost invariant = { λ cutter. cutter.len ≤ KEEP };
 }
 
 // Where the first line feed stands.
 fn find_feed(chunk: &[u8]) -> Option<usize>
-    ensures { result ≡ position (λ b. b == 10) chunk.now }
+    ensures { result ≡ position (λ b. b == line_feed) chunk.now }
 {
     chunk.iter().position(|b| *b == b'\n')
 }
@@ -63,7 +64,7 @@ impl Cutter {
     // The line so far.
     pub fn line(&self) -> &[u8]
         ensures value { result.now ≡ self.now }
-        ensures fits { length result.now ≤ 205 }
+        ensures fits { length result.now ≤ KEEP }
     {
         &self.held[..self.len]
     }
@@ -76,7 +77,7 @@ impl Cutter {
     }
 
     fn keep(&mut self, bytes: &[u8])
-        ensures { self.new ≡ take 205 (self.old ++ bytes.now) }
+        ensures { self.new ≡ take KEEP (self.old ++ bytes.now) }
     {
         let n = bytes.len().min(KEEP - self.len);
         let end = self.len + n;
@@ -86,7 +87,7 @@ impl Cutter {
 
     // Takes the bytes up to the first line feed. Answers what follows it in the chunk, or None where there is none.
     pub fn feed<'a>(&mut self, chunk: &'a [u8]) -> Option<&'a [u8]>
-        ensures held { self.new ≡ take 205 (self.old ++ line_part chunk.now) }
+        ensures held { self.new ≡ take KEEP (self.old ++ line_part chunk.now) }
         ensures value { option_copied result ≡ rest chunk.now }
         ensures shorter { IfSome result (λ rest. length rest.now < length chunk.now) }
     {
@@ -98,31 +99,38 @@ impl Cutter {
         Some(&chunk[n + 1..])
     }
 
-    // Hands each line that ends in the chunk to `each`, and keeps what follows the last. A line that it refuses is the
-    // last one handed on, and is held. By `&mut`, so that a clause can name what all calls made of `each`.
-    pub fn each_line<E, F: FnMut(&[u8]) -> Result<(), E>>(
-        &mut self,
-        chunk: &[u8],
-        each: &mut F,
-    ) -> Result<(), E>
-        requires { F.IsAlwaysCallable each.old }
-        ensures handed { Handed (CalledAt F.FnMut) each.old (lines self.old chunk.now) result each.new self.new }
+    // Hands each line that ends in the chunk to the sink, and keeps what follows the last. A line that it refuses is
+    // the last one handed on, and is held.
+    pub fn each_line<S: LineSink>(&mut self, chunk: &[u8], sink: &mut S) -> io::Result<()>
+        ensures handed { Handed S.takes
+            sink.old (lines self.old chunk.now) result sink.new self.new }
         ensures kept { OnOk result (self.new ≡ left self.old chunk.now) }
-        ensures again { F.IsAlwaysCallable each.new }
     {
         let mut text = chunk;
         while let Some(rest) = self.feed(text) {
-            each(self.line())?;
+            sink.take(self.line())?;
             self.clear();
             text = rest;
         }
         Ok(())
     }
+
+    // Hands on what is held, at the end of the input: a last line that lacks its line feed, if it has a byte.
+    fn end<S: LineSink>(&self, sink: &mut S) -> io::Result<()>
+        ensures { S.takes sink.old (unended_line self.now) result sink.new }
+    {
+        if self.line().is_empty() {
+            return Ok(());
+        }
+        sink.take(self.line())
+    }
 }
 
 // A cutter that holds the line already.
 impl From<&[u8]> for Cutter {
-    ghost from_gives = { λ line cutter. cutter ≡ take 205 line.now };
+    ghost use Rattle.input.specs.declared.TheConstants.{KEEP};
+
+    ghost from_gives = { λ line cutter. cutter ≡ take KEEP line.now };
 
     fn from(line: &[u8]) -> Cutter {
         let mut cutter = Cutter::new();

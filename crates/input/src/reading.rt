@@ -1,31 +1,31 @@
-// Reading an input to its end, a chunk at a time.
-ghost use Rattle.std.specs.Fn.{CalledAt};
-ghost use Rattle.input.specs.Chunks.{Fed};
+// Reading the lines of an input.
+ghost use Rattle.input.specs.Reading.{LinesTaken};
 
+use crate::Cutter;
+use crate::sink::LineSink;
 use std::io;
 use std::io::BufRead;
 
-// Hands each chunk of the input to `each`, until the input is at its end or a call answers false: it has enough. A
-// chunk whose call fails is not taken from the input.
-pub fn each_chunk<R: BufRead, F: FnMut(&[u8]) -> io::Result<bool>>(
-    input: &mut R,
-    each: &mut F,
-) -> io::Result<()>
-    requires { F.IsAlwaysCallable each.old }
-    ensures fed { Fed (CalledAt F.FnMut) each.old (R.remaining input.old) result each.new (R.remaining input.new) }
-    ensures again { F.IsAlwaysCallable each.new }
+// Hands the lines of the input to the sink, each cut to its first bytes, until the input is at its end or the sink is
+// done. A last line that lacks its line feed counts if it has a byte. The input is taken a chunk at a time; before more
+// is waited for the sink is flushed, and a chunk at which it fails is not taken.
+pub fn take_lines<R: BufRead, S: LineSink>(input: &mut R, sink: &mut S) -> io::Result<()>
+    ensures { LinesTaken S.takes S.done
+        sink.old (R.remaining input.old) result sink.new (R.remaining input.new) }
 {
+    let mut cutter = Cutter::new();
     // Counted: nothing that a reader says of what is left would show that a plain loop ends. The label names the loop
     // in its proof.
     'chunks: for _ in 0..u64::MAX {
         let chunk = input.fill_buf()?;
         let len = chunk.len();
         if len == 0 {
-            return Ok(());
+            return cutter.end(sink);
         }
-        let more = each(chunk)?;
+        cutter.each_line(chunk, sink)?;
+        sink.flush()?;
         input.consume(len);
-        if !more {
+        if sink.is_done() {
             return Ok(());
         }
     }

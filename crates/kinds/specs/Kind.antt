@@ -61,18 +61,21 @@ module _ {N C : Type 0} (a : Arithmetic N C) where
     -- the negative of a stored number is stored
     pub negative_means : (n : N) → Alike (a.means (a.negative n)) (neg_ℤ (a.means n))
     -- add-product gives a stored number the same as c + q × d, and none exactly where that cannot be stored
-    pub add_product_means : (c q d r : N) → a.add_product c q d ≡ Some r → Alike (a.means r) (a.means c +ℤ a.means q *ℤ a.means d)
+    pub add_product_means : (c q d r : N) → a.add_product c q d ≡ Some r →
+        Alike (a.means r) (a.means c +ℤ a.means q *ℤ a.means d)
     pub add_product_none : (c q d : N) → a.add_product c q d ≡ None → Stored (a.means c +ℤ a.means q *ℤ a.means d) → ⊥
     -- the size is alike for same numbers and 0 exactly for those the same as 0
     pub size_same : (x y : N) → Alike (a.means x) (a.means y) → a.size x ≡ a.size y
     pub size_zero : (x : N) → Alike (a.means x) (pos 0) → a.size x ≡ 0
     pub zero_size : (x : N) → a.size x ≡ 0 → Alike (a.means x) (pos 0)
     -- a multiple of d that is not the same as 0 has at least the size of d
-    pub size_multiple : (d x : N) (k : ℤ) → Alike (a.means x) (k *ℤ a.means d) → (Alike (a.means x) (pos 0) → ⊥) → a.size d ≤ a.size x
+    pub size_multiple : (d x : N) (k : ℤ) → Alike (a.means x) (k *ℤ a.means d) → (Alike (a.means x) (pos 0) → ⊥) →
+        a.size d ≤ a.size x
     -- the quotient q of c by d leaves c − q × d stored and smaller than d, and there is none exactly where d is the
     -- same as 0
     pub rest_stored : (c d q : N) → a.quotient c d ≡ Some q → Stored (a.means c -ℤ a.means q *ℤ a.means d)
-    pub rest_smaller : (c d q r : N) → a.quotient c d ≡ Some q → Alike (a.means r) (a.means c -ℤ a.means q *ℤ a.means d) → a.size r < a.size d
+    pub rest_smaller : (c d q r : N) → a.quotient c d ≡ Some q →
+        Alike (a.means r) (a.means c -ℤ a.means q *ℤ a.means d) → a.size r < a.size d
     pub quotient_none : (c d : N) → a.quotient c d ≡ None → Alike (a.means d) (pos 0)
     pub none_quotient : (c d : N) → Alike (a.means d) (pos 0) → a.quotient c d ≡ None
     -- the unit of a number has a stored inverse

@@ -17,19 +17,23 @@ ind P z s p (negsuc (suc n)) = p (negsuc n) (ind P z s p (negsuc n))
 pub *ℤ-distribʳ : (a b c : ℤ) → (a +ℤ b) *ℤ c ≡ a *ℤ c +ℤ b *ℤ c
 *ℤ-distribʳ a b c = ind (λ a. (a +ℤ b) *ℤ c ≡ a *ℤ c +ℤ b *ℤ c)
     (ap (λ x. x *ℤ c) (+ℤ_idl b) ∙ sym (+ℤ_idl (b *ℤ c)) ∙ ap (λ x. x +ℤ b *ℤ c) (sym (zero-*ℤ c)))
-    (λ k h. ap (λ x. x *ℤ c) (suc_ℤ-+ℤ k b) ∙ suc_ℤ-*ℤ (k +ℤ b) c ∙ ap (λ x. x +ℤ c) h ∙ swap (k *ℤ c) (b *ℤ c) c ∙ ap (λ x. x +ℤ b *ℤ c) (sym (suc_ℤ-*ℤ k c)))
-    (λ k h. ap (λ x. x *ℤ c) (pred_ℤ-+ℤ k b) ∙ pred_ℤ-*ℤ (k +ℤ b) c ∙ ap (λ x. x -ℤ c) h ∙ swap (k *ℤ c) (b *ℤ c) (neg_ℤ c) ∙ ap (λ x. x +ℤ b *ℤ c) (sym (pred_ℤ-*ℤ k c)))
+    (λ k h. ap (λ x. x *ℤ c) (suc_ℤ-+ℤ k b) ∙ suc_ℤ-*ℤ (k +ℤ b) c ∙ ap (λ x. x +ℤ c) h
+    ∙ swap (k *ℤ c) (b *ℤ c) c ∙ ap (λ x. x +ℤ b *ℤ c) (sym (suc_ℤ-*ℤ k c)))
+    (λ k h. ap (λ x. x *ℤ c) (pred_ℤ-+ℤ k b) ∙ pred_ℤ-*ℤ (k +ℤ b) c ∙ ap (λ x. x -ℤ c) h
+    ∙ swap (k *ℤ c) (b *ℤ c) (neg_ℤ c) ∙ ap (λ x. x +ℤ b *ℤ c) (sym (pred_ℤ-*ℤ k c)))
     a
   where
     swap : (x y z : ℤ) → x +ℤ y +ℤ z ≡ x +ℤ z +ℤ y
     swap x y z = omega (arith, ints)
 
 pub *ℤ-distribˡ : (a b c : ℤ) → a *ℤ (b +ℤ c) ≡ a *ℤ b +ℤ a *ℤ c
-*ℤ-distribˡ a b c = *ℤ_comm a (b +ℤ c) ∙ *ℤ-distribʳ b c a ∙ ap (λ x. x +ℤ c *ℤ a) (*ℤ_comm b a) ∙ ap (λ x. a *ℤ b +ℤ x) (*ℤ_comm c a)
+*ℤ-distribˡ a b c =
+    *ℤ_comm a (b +ℤ c) ∙ *ℤ-distribʳ b c a ∙ ap (λ x. x +ℤ c *ℤ a) (*ℤ_comm b a) ∙ ap (λ x. a *ℤ b +ℤ x) (*ℤ_comm c a)
 
 pub neg-*ℤ : (a b : ℤ) → neg_ℤ a *ℤ b ≡ neg_ℤ (a *ℤ b)
 neg-*ℤ a b =
-    let e : a *ℤ b +ℤ neg_ℤ a *ℤ b ≡ pos zero = sym (*ℤ-distribʳ a (neg_ℤ a) b) ∙ ap (λ x. x *ℤ b) (+ℤ_invr a) ∙ zero-*ℤ b in
+    let e : a *ℤ b +ℤ neg_ℤ a *ℤ b ≡ pos zero =
+    sym (*ℤ-distribʳ a (neg_ℤ a) b) ∙ ap (λ x. x *ℤ b) (+ℤ_invr a) ∙ zero-*ℤ b in
     away (a *ℤ b) (neg_ℤ a *ℤ b) e
   where
     away : (x y : ℤ) → x +ℤ y ≡ pos zero → y ≡ neg_ℤ x
@@ -41,8 +45,10 @@ pub *ℤ-neg : (a b : ℤ) → a *ℤ neg_ℤ b ≡ neg_ℤ (a *ℤ b)
 pub *ℤ-assoc : (a b c : ℤ) → (a *ℤ b) *ℤ c ≡ a *ℤ (b *ℤ c)
 *ℤ-assoc a b c = ind (λ a. (a *ℤ b) *ℤ c ≡ a *ℤ (b *ℤ c))
     (ap (λ x. x *ℤ c) (zero-*ℤ b) ∙ zero-*ℤ c ∙ sym (zero-*ℤ (b *ℤ c)))
-    (λ k h. ap (λ x. x *ℤ c) (suc_ℤ-*ℤ k b) ∙ *ℤ-distribʳ (k *ℤ b) b c ∙ ap (λ x. x +ℤ b *ℤ c) h ∙ sym (suc_ℤ-*ℤ k (b *ℤ c)))
-    (λ k h. ap (λ x. x *ℤ c) (pred_ℤ-*ℤ k b) ∙ *ℤ-distribʳ (k *ℤ b) (neg_ℤ b) c ∙ ap (λ x. x +ℤ neg_ℤ b *ℤ c) h ∙ ap (λ x. k *ℤ (b *ℤ c) +ℤ x) (neg-*ℤ b c) ∙ sym (pred_ℤ-*ℤ k (b *ℤ c)))
+    (λ k h. ap (λ x. x *ℤ c) (suc_ℤ-*ℤ k b) ∙ *ℤ-distribʳ (k *ℤ b) b c ∙ ap (λ x. x +ℤ b *ℤ c) h
+    ∙ sym (suc_ℤ-*ℤ k (b *ℤ c)))
+    (λ k h. ap (λ x. x *ℤ c) (pred_ℤ-*ℤ k b) ∙ *ℤ-distribʳ (k *ℤ b) (neg_ℤ b) c ∙ ap (λ x. x +ℤ neg_ℤ b *ℤ c) h
+    ∙ ap (λ x. k *ℤ (b *ℤ c) +ℤ x) (neg-*ℤ b c) ∙ sym (pred_ℤ-*ℤ k (b *ℤ c)))
     a
 
 pub *ℤ-left-comm : (a b c : ℤ) → a *ℤ (b *ℤ c) ≡ b *ℤ (a *ℤ c)
@@ -55,4 +61,23 @@ times_one a = *ℤ-one a
 pub one_times : (a : ℤ) → pos 1 *ℤ a ≡ a
 one_times a = *ℤ_comm (pos 1) a ∙ times_one a
 
-pub ruleset ring = (*ℤ-distribʳ, *ℤ-distribˡ, neg-*ℤ, *ℤ-neg, neg_ℤ-+ℤ, neg_ℤ-neg_ℤ, +ℤ_assoc, +ℤ-left-comm, +ℤ_comm, *ℤ-assoc, *ℤ-left-comm, *ℤ_comm, +ℤ_idl, +ℤ_idr, zero-*ℤ, *ℤ-zero, times_one, one_times)
+pub ruleset ring = (
+  *ℤ-distribʳ,
+  *ℤ-distribˡ,
+  neg-*ℤ,
+  *ℤ-neg,
+  neg_ℤ-+ℤ,
+  neg_ℤ-neg_ℤ,
+  +ℤ_assoc,
+  +ℤ-left-comm,
+  +ℤ_comm,
+  *ℤ-assoc,
+  *ℤ-left-comm,
+  *ℤ_comm,
+  +ℤ_idl,
+  +ℤ_idr,
+  zero-*ℤ,
+  *ℤ-zero,
+  times_one,
+  one_times,
+)

@@ -16,7 +16,8 @@ use Rattle.kinds.specs.Sames.{same_eq}
 
 -- two numbers of one value are one
 pub same_whole : {a b : Whole} → a.value ≡ b.value → a ≡ b
-same_whole {a} {b} e = λ i. record { value = e i; ok = is_prop→PathP (λ i. unsigned_abs (e i) ≤ 2147483647) (λ i. le_prop) a.ok b.ok i }
+same_whole {a} {b} e = λ i.
+    record { value = e i; ok = is_prop→PathP (λ i. unsigned_abs (e i) ≤ 2147483647) (λ i. le_prop) a.ok b.ok i }
 
 -- with modulus 0, the same is equal
 pub equal : {a b : ℤ} → Same 0 a b → a ≡ b
@@ -30,7 +31,8 @@ nearest_is (negsuc n) h = ap negsuc (omega arith)
 pub fitted_is : (z : ℤ) (n : Whole) → n.value ≡ z → fitted z ≡ Some n
 fitted_is z n e =
     let h : unsigned_abs z ≤ 2147483647 = subst (λ (x : ℤ). unsigned_abs x ≤ 2147483647) e n.ok in
-    cond-true (nat_le (unsigned_abs z) 2147483647) (Some (nearest z)) None (le-leb _ _ h) ∙ ap Some (same_whole (nearest_is z h ∙ sym e))
+    cond-true (nat_le (unsigned_abs z) 2147483647) (Some (nearest z)) None (le-leb _ _ h)
+    ∙ ap Some (same_whole (nearest_is z h ∙ sym e))
 
 pub fitted_value : (z : ℤ) (n : Whole) → fitted z ≡ Some n → n.value ≡ z
 fitted_value z n e = by (nat_le (unsigned_abs z) 2147483647) refl e
@@ -50,7 +52,8 @@ no_divisors_0 x y s =
     let p : unsigned_abs x * unsigned_abs y ≡ 0 = sym (unsigned_abs-mul x y) ∙ ap unsigned_abs (equal s) in
     ⊎_elim (λ e. inl (same_eq (abs_zero x e)))
     (λ f. ⊎_elim (λ e. inr (same_eq (abs_zero y e)))
-    (λ g. let k : 0 < unsigned_abs x = omega arith in let l : 0 < unsigned_abs y = omega arith in let m = mul-pos k l in absurd (omega arith))
+    (λ g. let k : 0 < unsigned_abs x = omega arith in let l : 0 < unsigned_abs y = omega arith in
+    let m = mul-pos k l in absurd (omega arith))
     (cases_eq (unsigned_abs y) 0))
     (cases_eq (unsigned_abs x) 0)
 
@@ -88,10 +91,12 @@ pub floor_small : (c d : ℤ) → unsigned_abs (floor c d) ≤ unsigned_abs c
 floor_small c (pos b) = down_small c b
 floor_small c (negsuc b) = let e = abs_neg c in let d = down_small (neg_ℤ c) (suc b) in omega arith
 
-quotient_value : (c d q : Whole) → wholes.quotient c d ≡ Some q → (unsigned_abs d.value ≢ 0) × (q.value ≡ floor c.value d.value)
+quotient_value : (c d q : Whole) → wholes.quotient c d ≡ Some q →
+    (unsigned_abs d.value ≢ 0) × (q.value ≡ floor c.value d.value)
 quotient_value c d q e = by (unsigned_abs d.value == 0) refl e
   where
-    by : (t : Bool) → (unsigned_abs d.value == 0) ≡ t → cond t None (Some (nearest (floor c.value d.value))) ≡ Some q → (unsigned_abs d.value ≢ 0) × (q.value ≡ floor c.value d.value)
+    by : (t : Bool) → (unsigned_abs d.value == 0) ≡ t → cond t None (Some (nearest (floor c.value d.value))) ≡ Some q →
+        (unsigned_abs d.value ≢ 0) × (q.value ≡ floor c.value d.value)
     by true p h = absurd cc
     by false p h =
         let e : nearest (floor c.value d.value) ≡ q = cc in
@@ -99,10 +104,12 @@ quotient_value c d q e = by (unsigned_abs d.value == 0) refl e
         let o = c.ok in
         (eqb-false _ _ p, ap (λ (x : Whole). x.value) (sym e) ∙ nearest_is (floor c.value d.value) (omega arith))
 
-rest_less : (c d q : Whole) → wholes.quotient c d ≡ Some q → unsigned_abs (c.value -ℤ q.value *ℤ d.value) < unsigned_abs d.value
+rest_less : (c d q : Whole) → wholes.quotient c d ≡ Some q →
+    unsigned_abs (c.value -ℤ q.value *ℤ d.value) < unsigned_abs d.value
 rest_less c d q e =
     let v = quotient_value c d q e in
-    subst (λ (x : ℤ). unsigned_abs (c.value -ℤ x *ℤ d.value) < unsigned_abs d.value) (sym v.1) (floor_rest c.value d.value v.0)
+    subst (λ (x : ℤ). unsigned_abs (c.value -ℤ x *ℤ d.value) < unsigned_abs d.value) (sym v.1)
+    (floor_rest c.value d.value v.0)
 
 unit_inverted : (z : ℤ) → (sign z).value *ℤ (sign z).value ≡ pos 1
 unit_inverted (pos n) = refl
@@ -112,7 +119,8 @@ multiple : (d x k : ℤ) → x ≡ k *ℤ d → (x ≢ pos 0) → unsigned_abs d
 multiple d x k e f =
     let m : unsigned_abs x ≡ unsigned_abs k * unsigned_abs d = ap unsigned_abs e ∙ unsigned_abs-mul k d in
     ⊎_elim (λ z. absurd (f (abs_zero x (m ∙ ap (λ y. y * unsigned_abs d) z ∙ omega arith))))
-    (λ g. let l : 1 ≤ unsigned_abs k = omega arith in let t = mul-le-mul_right (unsigned_abs d) l in omega (arith, one-mul (unsigned_abs d)))
+    (λ g. let l : 1 ≤ unsigned_abs k = omega arith in
+    let t = mul-le-mul_right (unsigned_abs d) l in omega (arith, one-mul (unsigned_abs d)))
     (cases_eq (unsigned_abs k) 0)
 
 pub whole_laws : Laws wholes
@@ -134,16 +142,28 @@ whole_laws = record {
   size_zero = λ x s. ap unsigned_abs (equal s);
   zero_size = λ x e. same_eq (abs_zero x.value e);
   size_multiple = λ d x k s f. multiple d.value x.value k (equal s) (λ e. f (same_eq e));
-  rest_stored = λ c d q e. let l = rest_less c d q e in let o = d.ok in (nearest (c.value -ℤ q.value *ℤ d.value), same_eq (nearest_is (c.value -ℤ q.value *ℤ d.value) (omega arith)));
-  rest_smaller = λ c d q r e s. subst (λ (x : ℤ). unsigned_abs x < unsigned_abs d.value) (sym (equal s)) (rest_less c d q e);
-  quotient_none = λ c d e. ⊎_elim (λ z. same_eq (abs_zero d.value z)) (λ f. let g = sym (cond-false (unsigned_abs d.value == 0) None (Some (nearest (floor c.value d.value))) (ne_eqb _ _ f)) ∙ e in absurd cc) (cases_eq (unsigned_abs d.value) 0);
-  none_quotient = λ c d s. cond-true (unsigned_abs d.value == 0) None (Some (nearest (floor c.value d.value))) (eq-eqb _ _ (ap unsigned_abs (equal s)));
+  rest_stored = λ c d q e. let l = rest_less c d q e in let o = d.ok in
+      (nearest (c.value -ℤ q.value *ℤ d.value), same_eq (nearest_is (c.value -ℤ q.value *ℤ d.value) (omega arith)));
+  rest_smaller = λ c d q r e s.
+      subst (λ (x : ℤ). unsigned_abs x < unsigned_abs d.value) (sym (equal s)) (rest_less c d q e);
+  quotient_none = λ c d e. ⊎_elim (λ z. same_eq (abs_zero d.value z))
+      (λ f. let g =
+      sym (cond-false (unsigned_abs d.value == 0) None (Some (nearest (floor c.value d.value))) (ne_eqb _ _ f)) ∙ e in
+      absurd cc)
+      (cases_eq (unsigned_abs d.value) 0);
+  none_quotient = λ c d s. cond-true (unsigned_abs d.value == 0) None (Some (nearest (floor c.value d.value)))
+      (eq-eqb _ _ (ap unsigned_abs (equal s)));
   unit_inverse = λ n. (sign n.value, same_eq (unit_inverted n.value));
 }
 
 -- the product of two stored numbers
 pub product_small : (q d : Whole) → unsigned_abs (q.value *ℤ d.value) ≤ 4611686014132420609
-product_small q d = let o = q.ok in let p = d.ok in let m : unsigned_abs q.value * unsigned_abs d.value ≤ 2147483647 * 2147483647 = mul-le-mul o p in let e = unsigned_abs-mul q.value d.value in omega arith
+product_small q d =
+    let o = q.ok in
+    let p = d.ok in
+    let m : unsigned_abs q.value * unsigned_abs d.value ≤ 2147483647 * 2147483647 = mul-le-mul o p in
+    let e = unsigned_abs-mul q.value d.value in
+    omega arith
 
 pub fits_32 : (n : Whole) → FitsSigned w32 n.value
 fits_32 n = let o = n.ok in omega (arith, ints)
@@ -167,7 +187,10 @@ sum_fits c q d =
 word : (n : Whole) → to_z w64 (of_z w64 (to_z w32 (of_z w32 n.value))) ≡ n.value
 word n = ap (λ z. to_z w64 (of_z w64 z)) (to_z-of_z w32 n.value (fits_32 n)) ∙ to_z-of_z w64 n.value (fits_64 n)
 
-pub sum_word : (c q d : Whole) → to_z w64 (of_z w64 (to_z w64 (of_z w64 (to_z w32 (of_z w32 c.value))) +ℤ to_z w64 (of_z w64 (to_z w64 (of_z w64 (to_z w32 (of_z w32 q.value))) *ℤ to_z w64 (of_z w64 (to_z w32 (of_z w32 d.value))))))) ≡ c.value +ℤ q.value *ℤ d.value
+pub sum_word : (c q d : Whole) →
+    to_z w64 (of_z w64 (to_z w64 (of_z w64 (to_z w32 (of_z w32 c.value))) +ℤ
+    to_z w64 (of_z w64 (to_z w64 (of_z w64 (to_z w32 (of_z w32 q.value))) *ℤ
+    to_z w64 (of_z w64 (to_z w32 (of_z w32 d.value))))))) ≡ c.value +ℤ q.value *ℤ d.value
 sum_word c q d =
     (λ i. to_z w64 (of_z w64 (word c i +ℤ to_z w64 (of_z w64 (word q i *ℤ word d i)))))
     ∙ ap (λ z. to_z w64 (of_z w64 (c.value +ℤ z))) (to_z-of_z w64 (q.value *ℤ d.value) (product_fits q d))

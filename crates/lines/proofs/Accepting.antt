@@ -7,9 +7,10 @@ use Rattle.std.proofs.lemmas.List.{length-take-le, length-drop, take-append-drop
 use Rattle.std.proofs.lemmas.Bool.{ltb-false, le-ltb, eqb-true, or_parts, cond-false}
 use Rattle.faults.specs.declared.LineFault.{LineFault}
 use Rattle.faults.specs.declared.LineFault.TheVariants.{FewWords}
+use Rattle.faults.proofs.Refusing.{ok_not_refused, err_refused}
 use Rattle.lines.specs.declared.reading.Line.{Line}
 use Rattle.lines.specs.Hex.{Hex, hex_value, no_digit, text, word_text, find}
-use Rattle.lines.specs.Line.{line_text, frame_of, count_of, words_of, numbers, is_lowest, has, length_refusal, digit_refusal, size_refusal, frame_refusal, number_refusal, refusal, read_refusal, read_of, answered, line_of, words_left}
+use Rattle.lines.specs.Line.{most_numbers, shortest_line, longest_line, line_length, line_text, frame_of, count_of, words_of, numbers, is_lowest, has, length_refusal, digit_refusal, size_refusal, frame_refusal, number_refusal, refusal, read_refusal, read_of, line_of, words_left}
 use Rattle.lines.proofs.Digits.{text_number, word_text_word}
 use Rattle.lines.proofs.Finding.{find_none}
 use Rattle.lines.proofs.Words.{length_words_of}
@@ -35,9 +36,9 @@ not_taken false f e = refl
 not_taken true f e = absurd cc
 
 pub record Accepted (known bytes : List ℕ) : Type 0 where
-  pub short : length bytes ≤ 204
+  pub short : length bytes ≤ longest_line
   pub hex : Hex bytes
-  pub sized : length bytes ≡ 4 + 8 * count_of bytes
+  pub sized : length bytes ≡ line_length (count_of bytes)
   pub known_frame : has (frame_of bytes) known ≡ true
   pub none_lowest : find is_lowest (numbers bytes) ≡ None
 
@@ -47,37 +48,28 @@ accepted known bytes e =
     let b = or_none (digit_refusal bytes) (option_or (size_refusal bytes) (option_or (frame_refusal known bytes) (number_refusal bytes))) a.1 in
     let c = or_none (size_refusal bytes) (option_or (frame_refusal known bytes) (number_refusal bytes)) b.1 in
     let d = or_none (frame_refusal known bytes) (number_refusal bytes) c.1 in
-    let l = or_parts (ltb (length bytes) 4) (ltb 204 (length bytes)) (not_taken (ltb (length bytes) 4 || ltb 204 (length bytes)) _ a.0) in
+    let l = or_parts (ltb (length bytes) shortest_line) (ltb longest_line (length bytes)) (not_taken (ltb (length bytes) shortest_line || ltb longest_line (length bytes)) _ a.0) in
     record {
-      short = ltb-false 204 (length bytes) l.1;
+      short = ltb-false longest_line (length bytes) l.1;
       hex = hex_from_find bytes (map_none _ (find no_digit bytes) b.0);
-      sized = eqb-true _ _ (passed (eqb (length bytes) (4 + 8 * count_of bytes)) _ c.0);
+      sized = eqb-true _ _ (passed (eqb (length bytes) (line_length (count_of bytes))) _ c.0);
       known_frame = passed (has (frame_of bytes) known) _ d.0;
       none_lowest = map_none _ (find is_lowest (numbers bytes)) d.1;
     }
 
--- an answer that is a line
-pub answered_ok : (o : Option LineFault) (x y : Line) → answered o x ≡ Ok y → (o ≡ None) × (x ≡ y)
-answered_ok None x y e = (refl, cc)
-answered_ok (Some f) x y e = absurd cc
-
-pub answered_err : (o : Option LineFault) (x : Line) (f : LineFault) → answered o x ≡ Err f → o ≡ Some f
-answered_err None x f e = absurd cc
-answered_err (Some g) x f e = cc
-
 -- enough words
-pub enough : (lent : ℕ) (known bytes : List ℕ) → 25 ≤ lent → read_refusal lent known bytes ≡ refusal known bytes
-enough lent known bytes h = ap (λ o. option_or o (refusal known bytes)) (cond-false (ltb lent 25) (Some FewWords) None (le-ltb lent 25 h))
+pub enough : (lent : ℕ) (known bytes : List ℕ) → most_numbers ≤ lent → read_refusal lent known bytes ≡ refusal known bytes
+enough lent known bytes h = ap (λ o. option_or o (refusal known bytes)) (cond-false (ltb lent most_numbers) (Some FewWords) None (le-ltb lent most_numbers h))
 
 -- what an answer of reading says of the line
-pub read_ok : (lent : ℕ) (known bytes : List ℕ) (line : Line) → 25 ≤ lent → read_of lent known bytes ≡ Ok line → (refusal known bytes ≡ None) × (line_of bytes ≡ line)
-read_ok lent known bytes line h e = let a = answered_ok (read_refusal lent known bytes) (line_of bytes) line e in (sym (enough lent known bytes h) ∙ a.0, a.1)
+pub read_ok : (lent : ℕ) (known bytes : List ℕ) (line : Line) → most_numbers ≤ lent → read_of lent known bytes ≡ Ok line → (refusal known bytes ≡ None) × (line_of bytes ≡ line)
+read_ok lent known bytes line h e = let a = ok_not_refused (read_refusal lent known bytes) (line_of bytes) line e in (sym (enough lent known bytes h) ∙ a.0, a.1)
 
-pub read_err : (lent : ℕ) (known bytes : List ℕ) (f : LineFault) → 25 ≤ lent → read_of lent known bytes ≡ Err f → refusal known bytes ≡ Some f
-read_err lent known bytes f h e = sym (enough lent known bytes h) ∙ answered_err (read_refusal lent known bytes) (line_of bytes) f e
+pub read_err : (lent : ℕ) (known bytes : List ℕ) (f : LineFault) → most_numbers ≤ lent → read_of lent known bytes ≡ Err f → refusal known bytes ≡ Some f
+read_err lent known bytes f h e = sym (enough lent known bytes h) ∙ err_refused (read_refusal lent known bytes) (line_of bytes) f e
 
 -- the first words after a line was accepted
-pub words_read : (lent : ℕ) (known bytes : List ℕ) (old : List ℤ) → 25 ≤ lent → refusal known bytes ≡ None → take (count_of bytes) (words_left (read_refusal lent known bytes) bytes old) ≡ numbers bytes
+pub words_read : (lent : ℕ) (known bytes : List ℕ) (old : List ℤ) → most_numbers ≤ lent → refusal known bytes ≡ None → take (count_of bytes) (words_left (read_refusal lent known bytes) bytes old) ≡ numbers bytes
 words_read lent known bytes old h e =
     ap (λ (o : Option LineFault). take (count_of bytes) (words_left o bytes old)) (enough lent known bytes h ∙ e)
     ∙ take_at (numbers bytes) (drop (count_of bytes) old) (count_of bytes) (length_words_of (count_of bytes) (drop 4 bytes))
@@ -91,7 +83,7 @@ joined_words (suc n) ds l h =
     let b = joined_words n (drop 8 ds) (length-drop 8 ds ∙ omega arith) (All-drop (λ c. hex_value c < 16) 8 ds h) in
     (λ j. a j ++ b j) ∙ take-append-drop 8 ds
 
-pub written_again : (bytes : List ℕ) → Hex bytes → length bytes ≡ 4 + 8 * count_of bytes → line_text (frame_of bytes) (numbers bytes) ≡ bytes
+pub written_again : (bytes : List ℕ) → Hex bytes → length bytes ≡ line_length (count_of bytes) → line_text (frame_of bytes) (numbers bytes) ≡ bytes
 written_again bytes h l =
     let rest = drop 2 bytes in
     let hr = All-drop (λ c. hex_value c < 16) 2 bytes h in

@@ -1,13 +1,17 @@
 -- A line that is begun, filled and closed is its text at the page's end, with zeroes behind one that was not full; one
 -- that is given up leaves zeroes. And when a line can begin, and a text has room.
-use Rattle.std.proofs.Common.{◌≡◌, ℕ, suc, ◌+◌, ◌-◌, ◌*◌, ◌≤◌, Bool, true, false, cond, ltb, List, [], ◌∷◌, ◌++◌, length, take, drop, replicate, fold, ℤ, Some, None, sym, refl, ap, ◌∙◌, add-zero, arith}
+use Rattle.std.proofs.Common.{◌≡◌, ℕ, suc, ◌+◌, ◌-◌, ◌*◌, ◌≤◌, Bool, true, false, cond, ltb, List, [], ◌∷◌, ◌++◌, length, take, drop, replicate, fold, ℤ, Some, None, Ok, Option, sym, refl, ap, ◌∙◌, add-zero, arith}
 use Rattle.std.specs.List.{flat_map}
 use Rattle.std.proofs.lemmas.Bool.{ltb-false, le-ltb}
-use Rattle.faults.specs.declared.PageFault.TheVariants.{NoRoom, LineBegun, TooMany}
+use Rattle.faults.specs.declared.PageFault.{PageFault}
+use Rattle.faults.specs.declared.PageFault.TheVariants.{NoRoom, LineBegun, NoLine, TooMany}
+use Rattle.faults.specs.Refusing.{left_unless}
+use Rattle.faults.proofs.Refusing.{ok_not_refused}
+use Rattle.lines.specs.declared.page.LineToken.{LineToken}
 use Rattle.std.proofs.lemmas.List.{append_assoc, append-nil, length-append, length-take-le, length-replicate, length_push, take_at, drop_at, replicate-append-replicate, flat_map_more}
 use Rattle.lines.specs.Hex.{text, word_text}
-use Rattle.lines.specs.Line.{line_text}
-use Rattle.lines.specs.Page.{over, zeroed, Model, between, began, with_word, closed, given_up, with_text, begin_refusal, HasRoom}
+use Rattle.lines.specs.Line.{most_numbers, line_feed, written_length, line_text, written_text}
+use Rattle.lines.specs.Page.{over, with_zeroes, Model, between, begun_page, with_word, closed_page, page_given_up, with_text, begin_refusal, begin_answer, begin_left, close_left, line_token, write_answer, write_left, HasRoom}
 use Rattle.lines.specs.PageLaws.{ShortLine, GivenUp, RoomExact}
 
 pub over_inside : {X : Type 0} (d : List X) (at x : ℕ) (p q q' r : List X) → x ≡ at + length p → length q ≡ length q' → at ≤ length d
@@ -45,15 +49,15 @@ length_joined (u ∷ us) = let e = length-append (word_text u) (flat_map word_te
 joined_push : (us : List ℤ) (w : ℤ) → flat_map word_text us ++ word_text w ≡ flat_map word_text (us ++ w ∷ [])
 joined_push us w = flat_map_more word_text [] us w
 
-zeroed_over : (d : List ℕ) (at k : ℕ) → zeroed d at k ≡ over d at (zeros k)
+zeroed_over : (d : List ℕ) (at k : ℕ) → with_zeroes d at k ≡ over d at (zeros k)
 zeroed_over d at k = ap (λ (i : ℕ). take at d ++ (zeros k ++ drop (at + i) d)) (sym (length-replicate k 0))
 
-module _ (m : Model) (frame n : ℕ) (fits : m.end + (5 + 8 * n) ≤ length m.bytes) where
+module _ (m : Model) (frame n : ℕ) (fits : m.end + written_length n ≤ length m.bytes) where
   -- the page with the numbers us put and room for k more
   filled : List ℤ → ℕ → Model
   filled us k = record { bytes = over m.bytes m.end (text 2 frame ++ (two_zeros ++ (flat_map word_text us ++ zeros (8 * k + 1)))); end = m.end; begun = true; room = n; put = length us }
 
-  began_filled : began m frame n ≡ filled [] n
+  began_filled : begun_page m frame n ≡ filled [] n
   unfolding filled
   began_filled =
       let d = m.bytes in
@@ -93,7 +97,8 @@ module _ (m : Model) (frame n : ℕ) (fits : m.end + (5 + 8 * n) ≤ length m.by
       ∙ ap (λ (x : List ℤ). filled x k) (append_assoc us (w ∷ []) ws)
 
   -- a line closed with room for k numbers more
-  closed_filled : (ws : List ℤ) (k : ℕ) → closed (filled ws k) ≡ between (over m.bytes m.end (line_text frame ws ++ 10 ∷ zeros (8 * k))) (m.end + (5 + 8 * length ws))
+  closed_filled : (ws : List ℤ) (k : ℕ) → closed_page (filled ws k)
+      ≡ between (over m.bytes m.end (line_text frame ws ++ line_feed ∷ zeros (8 * k))) (m.end + written_length (length ws))
   unfolding filled
   closed_filled ws k =
       let d = m.bytes in
@@ -111,7 +116,8 @@ module _ (m : Model) (frame n : ℕ) (fits : m.end + (5 + 8 * n) ≤ length m.by
       ap (λ (y : List ℕ). between y (at + (5 + 8 * length ws))) b
 
   -- a line given up with room for k numbers more
-  given_filled : (us : List ℤ) (k : ℕ) → n ≡ length us + k → given_up (filled us k) ≡ between (zeroed m.bytes m.end (5 + 8 * n)) m.end
+  given_filled : (us : List ℤ) (k : ℕ) → n ≡ length us + k → page_given_up (filled us k)
+      ≡ between (with_zeroes m.bytes m.end (written_length n)) m.end
   unfolding filled
   given_filled us k e =
       let d = m.bytes in
@@ -131,36 +137,63 @@ module _ (m : Model) (frame n : ℕ) (fits : m.end + (5 + 8 * n) ≤ length m.by
       ∙ ap (over d at) (append-nil O)
       ∙ sym (zeroed_over d at (5 + 8 * n)))
 
-  all_put : (ws : List ℤ) → length ws ≤ n → fold with_word (began m frame n) ws ≡ filled ws (n - length ws)
+  all_put : (ws : List ℤ) → length ws ≤ n → fold with_word (begun_page m frame n) ws ≡ filled ws (n - length ws)
   all_put ws h = ap (λ (x : Model). fold with_word x ws) began_filled ∙ puts_filled [] ws n (n - length ws) (omega arith)
 
-pub line_stands : (m : Model) (frame : ℕ) (ws : List ℤ) → m.end + (5 + 8 * length ws) ≤ length m.bytes
-    → closed (fold with_word (began m frame (length ws)) ws) ≡ with_text m (line_text frame ws ++ 10 ∷ [])
+pub line_stands : (m : Model) (frame : ℕ) (ws : List ℤ) → m.end + written_length (length ws) ≤ length m.bytes
+    → closed_page (fold with_word (begun_page m frame (length ws)) ws) ≡ with_text m (written_text frame ws)
 line_stands m frame ws fits =
-    let l : m.end + (5 + 8 * length ws) ≡ m.end + length (line_text frame ws ++ 10 ∷ []) = let e = length_joined ws in let f = length_push (line_text frame ws) 10 in omega arith in
-    ap closed (ap (λ (x : Model). fold with_word x ws) (began_filled m frame (length ws) fits) ∙ puts_filled m frame (length ws) fits [] ws (length ws) 0 (omega arith))
+    let l : m.end + written_length (length ws) ≡ m.end + length (written_text frame ws) = let e = length_joined ws in let f = length_push (line_text frame ws) line_feed in omega arith in
+    ap closed_page (ap (λ (x : Model). fold with_word x ws) (began_filled m frame (length ws) fits) ∙ puts_filled m frame (length ws) fits [] ws (length ws) 0 (omega arith))
     ∙ closed_filled m frame (length ws) fits ws 0
-    ∙ ap (between (over m.bytes m.end (line_text frame ws ++ 10 ∷ []))) l
+    ∙ ap (between (over m.bytes m.end (written_text frame ws))) l
 
 -- a line can begin
-pub begins : (m : Model) (n : ℕ) → begin_refusal m n ≡ None → (m.end + (5 + 8 * n) ≤ length m.bytes) × (n ≤ 25)
-begins m n e = by m.begun (ltb (length m.bytes) (m.end + (5 + 8 * n))) (ltb 25 n) refl refl e
+pub begins : (m : Model) (n : ℕ) → begin_refusal m n ≡ None → (m.end + written_length n ≤ length m.bytes) × (n ≤ most_numbers)
+begins m n e = by m.begun (ltb (length m.bytes) (m.end + written_length n)) (ltb most_numbers n) refl refl e
   where
-    by : (b t u : Bool) → ltb (length m.bytes) (m.end + (5 + 8 * n)) ≡ t → ltb 25 n ≡ u → cond b (Some LineBegun) (cond t (Some NoRoom) (cond u (Some TooMany) None)) ≡ None → (m.end + (5 + 8 * n) ≤ length m.bytes) × (n ≤ 25)
+    by : (b t u : Bool) → ltb (length m.bytes) (m.end + written_length n) ≡ t → ltb most_numbers n ≡ u
+        → cond b (Some LineBegun) (cond t (Some NoRoom) (cond u (Some TooMany) None)) ≡ None
+        → (m.end + written_length n ≤ length m.bytes) × (n ≤ most_numbers)
     by true t u p q e = absurd cc
     by false true u p q e = absurd cc
     by false false true p q e = absurd cc
-    by false false false p q e = (ltb-false (length m.bytes) (m.end + (5 + 8 * n)) p, ltb-false 25 n q)
+    by false false false p q e = (ltb-false (length m.bytes) (m.end + written_length n) p, ltb-false most_numbers n q)
+
+-- a line that was begun
+pub begun_stands : (m after : Model) (frame n : ℕ) (token : LineToken) → begin_answer m n ≡ Ok token → after ≡ begin_left m frame n
+    → (begin_refusal m n ≡ None) × (after ≡ begun_page m frame n)
+begun_stands m after frame n token a l =
+    let r = (ok_not_refused (begin_refusal m n) line_token token a).0 in (
+      r,
+      l ∙ ap (λ (o : Option PageFault). left_unless o m (begun_page m frame n)) r,
+    )
+
+-- a whole line that was written
+pub written_stands : (m after : Model) (frame : ℕ) (ws : List ℤ) (done : Unit {0}) → write_answer m ws ≡ Ok done
+    → after ≡ write_left m frame ws → after ≡ with_text m (written_text frame ws)
+written_stands m after frame ws done a l =
+    l
+    ∙ ap (λ (o : Option PageFault). left_unless o m (with_text m (written_text frame ws)))
+    (ok_not_refused (begin_refusal m (length ws)) tt done a).0
+
+-- closing a begun line
+pub close_begun : (m : Model) → m.begun ≡ true → close_left m ≡ closed_page m
+close_begun m b = λ j. left_unless (cond (b j) None (Some NoLine)) m (closed_page m)
 
 pub short_line : ShortLine
 short_line m frame room ws b h =
     let fits = (begins m room b).0 in
-    ap closed (all_put m frame room fits ws h) ∙ closed_filled m frame room fits ws (room - length ws)
+    let z = zeros (8 * (room - length ws)) in
+    ap closed_page (all_put m frame room fits ws h)
+    ∙ closed_filled m frame room fits ws (room - length ws)
+    ∙ ap (λ (s : List ℕ). between (over m.bytes m.end s) (m.end + written_length (length ws)))
+    (sym (append_assoc (line_text frame ws) (line_feed ∷ []) z))
 
 pub given_line : GivenUp
 given_line m frame room ws b h =
     let fits = (begins m room b).0 in
-    ap given_up (all_put m frame room fits ws h) ∙ given_filled m frame room fits ws (room - length ws) (omega arith)
+    ap page_given_up (all_put m frame room fits ws h) ∙ given_filled m frame room fits ws (room - length ws) (omega arith)
 
 -- room for a text
 pub room_exact : RoomExact

@@ -7,7 +7,9 @@ use Rattle.std.specs.List.{AllByRecursion, position_from}
 
 -- the value of a character's code: 0 to 9 and A to F, and 16 for any other
 abbrev pub hex_value : ℕ → ℕ
-hex_value c = cond (nat_lt c 48) 16 (cond (nat_lt c 58) (c - 48) (cond (nat_lt c 65) 16 (cond (nat_lt c 71) (c - 55) 16)))
+hex_value c =
+    cond (nat_lt c 48) 16
+    (cond (nat_lt c 58) (c - 48) (cond (nat_lt c 65) 16 (cond (nat_lt c 71) (c - 55) 16)))
 
 abbrev pub no_digit : ℕ → Bool
 no_digit c = nat_lt 15 (hex_value c)

@@ -3,3 +3,4 @@ pub mod Hex
 pub mod Line
 pub mod Page
 pub mod PageLaws
+pub mod SampleLines

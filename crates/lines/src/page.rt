@@ -1,6 +1,7 @@
 // A page: lent bytes with an end, and the line that is begun there; and the token that is owed for that line.
-ghost use Rattle.std.specs.Prelude.{◌≡◌, ◌+◌, ◌*◌, ◌≤◌, length};
+ghost use Rattle.std.specs.Prelude.{◌≡◌, ◌+◌, ◌≤◌, length};
 ghost use Rattle.std.specs.Option.{option_map_or};
+ghost use Rattle.lines.specs.Line.{written_length};
 
 use begun::Begun;
 use faults::PageFault;
@@ -15,7 +16,7 @@ pub struct Page<'a> {
     // Where the next line will begin, or where the begun one begins.
     end: usize,
     line: Option<Begun>,
-    ghost fits: { end + option_map_or (λ l. 5 + 8 * l.room) line 0 ≤ length bytes.now },
+    ghost fits: { end + option_map_or (λ l. written_length l.room) line 0 ≤ length bytes.now },
 }
 
 impl Page<'_> {

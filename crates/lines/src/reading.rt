@@ -1,14 +1,21 @@
 // Reading a line: its frame, and its numbers unpacked into lent words.
-ghost use Rattle.std.specs.Prelude.{◌≡◌, ◌+◌, ◌*◌, ◌<◌, ◌≤◌, ◌++◌, length, take, drop, Some, None, IfSome, IfOk, MatchResult};
+ghost use Rattle.std.specs.Prelude.{◌≡◌, ◌+◌, ◌<◌, ◌≤◌, ◌++◌, length, take, drop, IfSome, IfOk};
+ghost use Rattle.std.specs.Result.{result_err};
 ghost use Rattle.std.proofs.Props.{props};
 ghost use Rattle.lines.specs.Hex.{Hex, number_of, word_of, find};
-ghost use Rattle.lines.specs.Line.{words_of, is_lowest, line_text, numbers, refusal, line_of, read_refusal, read_of, words_left};
+ghost use Rattle.lines.specs.Line.{most_numbers, line_length, is_lowest, line_text, frame_of, count_of, numbers, refusal, read_of, read_left};
 
 use crate::hex::{first_no_digit, value, word};
 use faults::{LineFault, NumberFault};
 
 // As many numbers as a line may have.
 pub const MOST_NUMBERS: usize = 25;
+
+// How many bytes the shortest line has, which is a frame and a count.
+pub const SHORTEST_LINE: usize = 4;
+
+// How many bytes a line of that many numbers has.
+pub const LONGEST_LINE: usize = 204;
 
 // A line as it was read: its count stands beside the lent words, as the public `read_line` answers it.
 #[derive(Clone, Copy)]
@@ -47,15 +54,17 @@ impl Digits<'_> {
 struct FullLine<'a> {
     digits: Digits<'a>,
     line: Line,
-    ghost few: { line.count ≤ 25 },
-    ghost full: { length digits.bytes.now ≡ 4 + 8 * line.count },
+    ghost few: { line.count ≤ most_numbers },
+    ghost frame: { line.frame ≡ frame_of digits.bytes.now },
+    ghost count: { line.count ≡ count_of digits.bytes.now },
+    ghost full: { length digits.bytes.now ≡ line_length line.count },
 }
 
 impl FullLine<'_> {
     // Number k.
     fn number(&self, k: usize) -> i32
         requires within { k < self.now.line.count }
-        ensures { result ≡ word_of (take 8 (drop (4 + 8 * k) self.now.digits.bytes.now)) }
+        ensures { result ≡ word_of (take 8 (drop (line_length k) self.now.digits.bytes.now)) }
     {
         let digits = &self.digits.bytes[4 + 8 * k..];
         word(&digits[..8])
@@ -63,7 +72,7 @@ impl FullLine<'_> {
 
     // The index of the first number that is -2147483648.
     fn first_lowest(&self) -> Option<usize>
-        ensures value { result ≡ find is_lowest (words_of self.now.line.count (drop 4 self.now.digits.bytes.now)) }
+        ensures value { result ≡ find is_lowest (numbers self.now.digits.bytes.now) }
         ensures bound { IfSome result (λ k. k < self.now.line.count) }
     {
         (0..self.line.count).find(|k| lowest(self.number(*k)))
@@ -72,7 +81,8 @@ impl FullLine<'_> {
     // The numbers, into the first words.
     fn unpack(&self, words: &mut [i32])
         requires room { self.now.line.count ≤ length words.old }
-        ensures { words.new ≡ words_of self.now.line.count (drop 4 self.now.digits.bytes.now) ++ drop self.now.line.count words.old }
+        ensures { words.new
+            ≡ numbers self.now.digits.bytes.now ++ drop self.now.line.count words.old }
     {
         for (k, word) in words[..self.line.count].iter_mut().enumerate() {
             *word = self.number(k);
@@ -83,9 +93,10 @@ impl FullLine<'_> {
 // The line, or why it is refused.
 #[tactic(auto, using(crate::proofs::Accepting::hex_from_find, crate::proofs::Finding::find_below))]
 fn check_line<'a>(bytes: &'a [u8], known: &[u8]) -> Result<FullLine<'a>, LineFault>
-    ensures cases { MatchResult result (λ full. (refusal known.now bytes.now ≡ None) × (full.line ≡ line_of bytes.now) × (full.digits.bytes.now ≡ bytes.now)) (λ fault. refusal known.now bytes.now ≡ Some fault) }
+    ensures fault { result_err result ≡ refusal known.now bytes.now }
+    ensures bytes { IfOk result (λ full. full.digits.bytes.now ≡ bytes.now) }
 {
-    if bytes.len() < 4 || bytes.len() > 204 {
+    if bytes.len() < SHORTEST_LINE || bytes.len() > LONGEST_LINE {
         return Err(LineFault::Length);
     }
     if let Some(place) = first_no_digit(bytes) {
@@ -115,7 +126,7 @@ fn check_line<'a>(bytes: &'a [u8], known: &[u8]) -> Result<FullLine<'a>, LineFau
 // is accepted would be written again byte for byte.
 pub fn read_line(bytes: &[u8], known: &[u8], words: &mut [i32]) -> Result<Line, LineFault>
     ensures value { result ≡ read_of (length words.old) known.now bytes.now }
-    ensures after { words.new ≡ words_left (read_refusal (length words.old) known.now bytes.now) bytes.now words.old }
+    ensures after { words.new ≡ read_left known.now bytes.now words.old }
     ensures again { IfOk result (λ line. line_text line.frame (numbers bytes.now) ≡ bytes.now) }
 {
     if words.len() < MOST_NUMBERS {

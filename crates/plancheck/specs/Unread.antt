@@ -5,6 +5,12 @@ use Rattle.std.specs.Prelude.{ℕ, List, cond, ◌&&◌, nat_lt, ◌++◌, codes
 abbrev pub glyph : ℕ → ℕ
 glyph b = cond (nat_lt 31 b && nat_lt b 127) b 46
 
--- its first 60 bytes, and dots where it has more
+-- as many of its bytes as are shown
+abbrev pub most_shown : ℕ
+most_shown = 60
+
+-- its first bytes, and dots where it has more
 abbrev pub unread : List ℕ → List ℕ
-unread bytes = codes "not read: \"" ++ map glyph (take 60 bytes) ++ cond (nat_lt 60 (length bytes)) (codes "...\"") (codes "\"")
+unread bytes =
+    codes "not read: \"" ++ map glyph (take most_shown bytes)
+    ++ cond (nat_lt most_shown (length bytes)) (codes "...\"") (codes "\"")

@@ -3,29 +3,60 @@
 
 #![tactic(auto)]
 
+ghost use Rattle.std.specs.Prelude.{false, ⊤};
+
 use input::Cutter;
-use input::reading::each_chunk;
+use input::reading::take_lines;
+use input::sink::LineSink;
 use std::io;
 use std::io::{BufReader, BufWriter, Write};
 
 mod report;
 mod unread;
 
-// The pair that is being read.
-#[derive(Default, Drop)]
-struct Pairs {
+// The pair that is being read, and where pairs are reported.
+#[derive(Drop)]
+struct Pairs<'a, W> {
     // The equation, where its line was read; then the next line is its plan.
     equation: Option<Cutter>,
     // How many lines were read.
     lines: u64,
+    out: &'a mut W,
 }
 
-impl Pairs {
-    // Takes a line; with a plan's line the pair is complete and reported.
-    fn take<W: Write>(&mut self, line: &[u8], out: &mut W) -> io::Result<()> {
+impl<'a, W: Write> Pairs<'a, W> {
+    fn new(out: &'a mut W) -> Pairs<'a, W> {
+        Pairs {
+            equation: None,
+            lines: 0,
+            out,
+        }
+    }
+
+    // The input is at its end: an equation that has no plan is reported.
+    fn finish(&mut self) -> io::Result<()> {
+        match &self.equation {
+            Some(equation) => report::without_plan(self.out, self.lines, equation.line()),
+            None => Ok(()),
+        }
+    }
+}
+
+// Nothing is said of what is written: the program is tested.
+impl<W: Write> LineSink for Pairs<'_, W> {
+    ghost takes = { λ _ _ _ _. ⊤ };
+
+    ghost done = { λ _. false };
+
+    ghost takes_none = { λ _. tt };
+
+    ghost takes_both = { λ _ _ _ _ _ _ _ _. tt };
+
+    // With a plan's line the pair is complete and reported.
+    fn take(&mut self, line: &[u8]) -> io::Result<()> {
         self.lines = self.lines.saturating_add(1);
         match self.equation.take() {
-            Some(equation) => report::pair(out, self.lines, equation.line(), line),
+            Some(equation) => report::pair(self.out, self.lines, equation.line(), line),
             None => {
                 self.equation = Some(Cutter::from(line));
                 Ok(())
@@ -33,30 +64,21 @@ impl Pairs {
         }
     }
 
-    // The input is at its end: an equation that has no plan is reported.
-    fn finish<W: Write>(&self, out: &mut W) -> io::Result<()> {
-        match &self.equation {
-            Some(equation) => report::without_plan(out, self.lines, equation.line()),
-            None => Ok(()),
-        }
+    fn flush(&mut self) -> io::Result<()> {
+        self.out.flush()
+    }
+
+    // Every line is read.
+    fn is_done(&self) -> bool {
+        false
     }
 }
 
 fn main(rt: HostRuntime) -> io::Result<()> {
     let mut input = BufReader::new(rt.alloc(), rt.stdin())?;
     let mut out = BufWriter::new(rt.alloc(), rt.stdout())?;
-    let mut cutter = Cutter::new();
-    let mut pairs = Pairs::default();
-    let mut check = |chunk: &[u8]| -> io::Result<bool> {
-        cutter.each_line(chunk, &mut |line| pairs.take(line, &mut out))?;
-        out.flush()?;
-        Ok(true)
-    };
-    each_chunk(&mut input, &mut check)?;
-    // A last line that lacks its line feed counts if it has a byte.
-    if !cutter.line().is_empty() {
-        pairs.take(cutter.line(), &mut out)?;
-    }
-    pairs.finish(&mut out)?;
+    let mut pairs = Pairs::new(&mut out);
+    take_lines(&mut input, &mut pairs)?;
+    pairs.finish()?;
     out.flush()
 }

@@ -1,5 +1,5 @@
 -- In a posting nothing but an add-product gives none: there is always a turn left, a pivot and a quotient.
-use Rattle.std.proofs.Common.{◌≡◌, ℕ, zero, suc, ◌<◌, Bool, true, false, cond, eqb, ◌⊎◌, List, [], ◌∷◌, length, set, ℤ, pos, ◌*ℤ◌, Some, None, Option, sym, refl, ap, ◌∙◌, subst, inl, inr, ⊎_elim, arith}
+use Rattle.std.proofs.Common.{◌≡◌, ℕ, zero, suc, ◌<◌, Bool, true, false, cond, eqb, ◌⊎◌, ◌↔◌, List, [], ◌∷◌, length, set, ℤ, pos, ◌*ℤ◌, Some, None, Option, sym, refl, ap, ◌∙◌, subst, inl, inr, ⊎_elim, arith}
 use Rattle.std.proofs.lemmas.List.{length-set, get_or-set_other}
 use Rattle.std.proofs.lemmas.Bool.{eqb-true, eqb-false, cases_eq}
 use Rattle.kinds.specs.Kind.{Arithmetic, Laws, Same}
@@ -12,7 +12,7 @@ use Rattle.plans.proofs.Bests.{Best, best, best_some}
 use Rattle.plans.proofs.Falling.{then_some, column_top, reduced_less, went, turn_falls}
 use Rattle.plans.proofs.Stored.{some_is}
 use Rattle.plans.proofs.Rightness.{at_stop}
-use Rattle.plans.proofs.Overflowing.{lacks_rounds, lacking_overflows}
+use Rattle.plans.proofs.Overflowing.{lacks_running, lacks_rounds, lacking_overflows}
 
 -- something is not nothing
 some_none : {X : Type 0} {x : X} {P : Type 0} → ◌≡◌ {A = Option X} (Some x) None → P
@@ -39,6 +39,10 @@ module _ {N C : Type 0} (a : Arithmetic N C) where
   running_lacks s [] xs e = some_none e
   running_lacks s (c ∷ cs) [] e = some_none e
   running_lacks s (c ∷ cs) (x ∷ xs) e = ⊎_elim (λ h. inl h) (λ t. inr (t.0, t.1, running_lacks t.0 cs xs t.2)) (then_none (a.add_product s c x) _ e)
+
+  -- a running sum comes to none exactly where one of its add-products does
+  pub running_none : (s : N) (cs xs : List N) → (running a s cs xs ≡ None) ↔ LacksSum a s cs xs
+  running_none s cs xs = (running_lacks s cs xs, lacks_running a s cs xs)
 
   topped_lacks : (cs : List N) (vs : List (List N)) → topped a cs vs ≡ None → LacksTops a cs vs
   topped_lacks cs [] e = some_none e

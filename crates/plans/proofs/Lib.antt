@@ -11,3 +11,5 @@ pub mod Overflowing
 pub mod Lacking
 pub mod NewSheet
 pub mod Sizes
+pub mod NeverOverflowing
+pub mod SampleSolutions

@@ -27,7 +27,7 @@ module _ {N C : Type 0} (a : Arithmetic N C) where
   lacks_column c q d h =
       ⊎_elim (λ e. none_first (a.add_product c.top q d.top) _ e) (λ l. none_after (a.add_product c.top q d.top) _ (λ t. none_first (adds a c.low q d.low) _ (lacks_adds c.low q d.low l))) h
 
-  lacks_running : (s : N) (cs xs : List N) → LacksSum a s cs xs → running a s cs xs ≡ None
+  pub lacks_running : (s : N) (cs xs : List N) → LacksSum a s cs xs → running a s cs xs ≡ None
   lacks_running s [] xs h = absurd h
   lacks_running s (c ∷ cs) [] h = absurd h
   lacks_running s (c ∷ cs) (x ∷ xs) h =

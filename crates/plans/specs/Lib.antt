@@ -2,6 +2,6 @@
 pub mod Sheet
 pub mod Posting
 pub mod Overflows
-pub mod Samples
 pub mod Solution
+pub mod SampleSolutions
 pub mod Promised

@@ -9,7 +9,8 @@ module _ {N C : Type 0} (a : Arithmetic N C) where
   abbrev pub LacksSum : N → List N → List N → Type 0
   LacksSum s [] xs = ⊥
   LacksSum s (c ∷ cs) [] = ⊥
-  LacksSum s (c ∷ cs) (x ∷ xs) = (a.add_product s c x ≡ None) ⊎ ((t : N) × (a.add_product s c x ≡ Some t) × LacksSum t cs xs)
+  LacksSum s (c ∷ cs) (x ∷ xs) =
+      (a.add_product s c x ≡ None) ⊎ ((t : N) × (a.add_product s c x ≡ Some t) × LacksSum t cs xs)
 
   -- the same of a move's top
   abbrev pub LacksTops : List N → List (List N) → Type 0
@@ -39,7 +40,9 @@ module _ {N C : Type 0} (a : Arithmetic N C) where
   abbrev pub LacksFinish : Column N → Column N → Type 0
   LacksFinish b d =
       (q : N) × (a.quotient b.top d.top ≡ Some q) ×
-      ((a.add_product b.top (a.negative q) d.top ≡ None) ⊎ ((t : N) × (a.add_product b.top (a.negative q) d.top ≡ Some t) × (a.size t ≡ 0) × Lacks b.low (a.negative q) d.low))
+      ((a.add_product b.top (a.negative q) d.top ≡ None) ⊎
+      ((t : N) × (a.add_product b.top (a.negative q) d.top ≡ Some t) ×
+      (a.size t ≡ 0) × Lacks b.low (a.negative q) d.low))
 
   -- v comes from w by rounds
   pub data Comes : Work N → Work N → Type 0 where
@@ -70,9 +73,12 @@ module _ {N C : Type 0} (a : Arithmetic N C) where
   pub data Lacking (s : Contents N) (cs : List N) (right : N) : Type 0 where
     in_tops : LacksTops cs s.moves → Lacking s cs right
     in_B : LacksSum (a.negative right) cs s.fixed → Lacking s cs right
-    in_units : (ds : List (Column N)) (b : Column N) → topped a cs s.moves ≡ Some ds → column_B a cs right s.fixed ≡ Some b → ¬ (total_size a ds ≡ 0) →
+    in_units : (ds : List (Column N)) (b : Column N) →
+        topped a cs s.moves ≡ Some ds → column_B a cs right s.fixed ≡ Some b → ¬ (total_size a ds ≡ 0) →
         LacksUnits ds → Lacking s cs right
-    in_rounds : (ds fs : List (Column N)) (b : Column N) → topped a cs s.moves ≡ Some ds → column_B a cs right s.fixed ≡ Some b → ¬ (total_size a ds ≡ 0) → normalised a ds ≡ Some fs →
+    in_rounds : (ds fs : List (Column N)) (b : Column N) →
+        topped a cs s.moves ≡ Some ds → column_B a cs right s.fixed ≡ Some b → ¬ (total_size a ds ≡ 0) →
+        normalised a ds ≡ Some fs →
         LacksRound (record { B = b; columns = fs }) ⊎ LacksEnd (record { B = b; columns = fs }) → Lacking s cs right
 
   -- in a posting nothing but an add-product can give none
@@ -82,12 +88,19 @@ module _ {N C : Type 0} (a : Arithmetic N C) where
     -- by a number whose size is not 0, everything has a quotient
     pub quotients : (c d : N) → ¬ (a.size d ≡ 0) → (q : N) × (a.quotient c d ≡ Some q)
     -- where not every top has size 0 there is a pivot, and its top has not size 0 either
-    pub pivot : (cs : List (Column N)) → ¬ (total_size a cs ≡ 0) → (l : ℕ) × (pivot_of a cs ≡ Some l) × ¬ (size_at a cs l ≡ 0)
+    pub pivot : (cs : List (Column N)) → ¬ (total_size a cs ≡ 0) →
+        (l : ℕ) × (pivot_of a cs ≡ Some l) × ¬ (size_at a cs l ≡ 0)
     -- a round leaves the runner-up's top as it is, and the size of that is not 0
     pub stays : (w v : Work N) → turn a w ≡ again v → ¬ (total_size a v.columns ≡ 0)
     -- a unit makes no top 0
-    pub normal : (cs ds : List (Column N)) → normalised a cs ≡ Some ds → ¬ (total_size a cs ≡ 0) → ¬ (total_size a ds ≡ 0)
+    pub normal : (cs ds : List (Column N)) → normalised a cs ≡ Some ds →
+        ¬ (total_size a cs ≡ 0) → ¬ (total_size a ds ≡ 0)
     -- so the rounds come to none exactly where an add-product of one of them does
-    pub never_out : (n : ℕ) (w : Work N) → ¬ (total_size a w.columns ≡ 0) → total_size a w.columns < n → (rounds a n w ≡ None) ↔ LacksRound w
+    pub never_out : (n : ℕ) (w : Work N) → ¬ (total_size a w.columns ≡ 0) → total_size a w.columns < n →
+        (rounds a n w ≡ None) ↔ LacksRound w
     -- and a posting overflows exactly where one of its add-products gives none
     pub overflows : (s : Contents N) (cs : List N) (right : N) → (posted a s cs right ≡ overflow) ↔ Lacking s cs right
+
+  -- no posting overflows, whatever a sheet holds
+  abbrev pub NeverOverflows : Type 0
+  NeverOverflows = (s : Contents N) (cs : List N) (right : N) → ¬ (posted a s cs right ≡ overflow)

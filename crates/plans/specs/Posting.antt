@@ -62,7 +62,8 @@ module _ {N C : Type 0} (a : Arithmetic N C) where
 
   -- a column plus q × another, from the top down
   abbrev pub adds_column : Column N → N → Column N → Option (Column N)
-  adds_column c q d = then (a.add_product c.top q d.top) (λ t. then (adds c.low q d.low) (λ l. Some (record { top = t; low = l })))
+  adds_column c q d =
+      then (a.add_product c.top q d.top) (λ t. then (adds c.low q d.low) (λ l. Some (record { top = t; low = l })))
 
   abbrev pub blank : Column N → Column N
   blank c = record { top = a.zero; low = map (λ _. a.zero) c.low }
@@ -70,7 +71,8 @@ module _ {N C : Type 0} (a : Arithmetic N C) where
   -- (tops) each move below its top
   abbrev pub topped : List N → List (List N) → Option (List (Column N))
   topped cs [] = Some []
-  topped cs (v ∷ vs) = then (running a.zero cs v) (λ t. then (topped cs vs) (λ ds. Some (record { top = t; low = v } ∷ ds)))
+  topped cs (v ∷ vs) =
+      then (running a.zero cs v) (λ t. then (topped cs vs) (λ ds. Some (record { top = t; low = v } ∷ ds)))
 
   -- (column B) the fixed plan, with the running sum from minus the right side as its top
   abbrev pub column_B : List N → N → List N → Option (Column N)
@@ -103,7 +105,8 @@ module _ {N C : Type 0} (a : Arithmetic N C) where
   abbrev pub round : Work N → ℕ → ℕ → Option (Work N)
   round w l r =
       then (reduced w.B (at w.columns l))
-      (λ b. then (reduced (at w.columns l) (at w.columns r)) (λ d. Some (record { B = b; columns = slice_set w.columns l d })))
+      (λ b. then (reduced (at w.columns l) (at w.columns r))
+      (λ d. Some (record { B = b; columns = slice_set w.columns l d })))
 
   abbrev pub turned : Option (Work N) → Turn N
   turned (Some w) = again w
@@ -143,7 +146,8 @@ module _ {N C : Type 0} (a : Arithmetic N C) where
 
   abbrev pub settled : Work N → ℕ → N → Option N → Outcome N
   settled w l q None = overflow
-  settled w l q (Some t) = cond (a.size t == 0) (closed w.columns l (adds w.B.low (a.negative q) (at w.columns l).low)) contradicted
+  settled w l q (Some t) =
+      cond (a.size t == 0) (closed w.columns l (adds w.B.low (a.negative q) (at w.columns l).low)) contradicted
 
   abbrev pub finish_by : Work N → ℕ → Option N → Outcome N
   finish_by w l None = overflow

@@ -28,5 +28,6 @@ module _ {N C : Type 0} (a : Arithmetic N C) where
   abbrev pub PostingExact : Type 0
   PostingExact =
       (n : ℕ) (es : List Equation) (s : Contents N) → Holds a n es s → (e : Equation) → length e.coefficients ≡ n →
-      (cs : List N) (right : N) → SameLists a.modulus (map a.means cs) e.coefficients → Same a.modulus (a.means right) e.right →
+      (cs : List N) (right : N) →
+      SameLists a.modulus (map a.means cs) e.coefficients → Same a.modulus (a.means right) e.right →
       Right n es e s (posted a s cs right)

@@ -30,11 +30,21 @@ made u [] choice = u
 made u (v ∷ vs) [] = u
 made u (v ∷ vs) (y ∷ choice) = made (plus u y v) vs choice
 
+-- in the modulus m, the choice makes the plan out of the fixed plan u and the moves vs, number by number
+abbrev pub Makes : ℕ → List ℤ → List (List ℤ) → List ℤ → List ℤ → Type 0
+Makes m u vs choice plan = SameLists m plan (made u vs choice)
+
+-- the same out of what a sheet holds
+abbrev pub MakesPlan : {N C : Type 0} → Arithmetic N C → Contents N → List ℤ → List ℤ → Type 0
+MakesPlan a s choice plan = Makes a.modulus (map a.means s.fixed) (map (map a.means) s.moves) choice plan
+
 -- the fixed plan u and the moves vs are the general solution of the equations, in n unknowns:
 -- a plan meets every equation exactly when some choice makes it, and no two choices make the same plan
 pub record General (m n : ℕ) (es : List Equation) (u : List ℤ) (vs : List (List ℤ)) : Type 0 where
-  pub meets_iff_made : (plan : List ℤ) → length plan ≡ n → MeetsAll m es plan ↔ ((y : List ℤ) × (length y ≡ length vs) × SameLists m plan (made u vs y))
-  pub once : (y z : List ℤ) → length y ≡ length vs → length z ≡ length vs → SameLists m (made u vs y) (made u vs z) → SameLists m y z
+  pub meets_iff_made : (plan : List ℤ) → length plan ≡ n →
+      MeetsAll m es plan ↔ ((y : List ℤ) × (length y ≡ length vs) × Makes m u vs y plan)
+  pub once : (y z : List ℤ) → length y ≡ length vs → length z ≡ length vs →
+      Makes m u vs z (made u vs y) → SameLists m y z
 
 -- what an equation more can be to a sheet
 pub data Judgement : Type 0 where

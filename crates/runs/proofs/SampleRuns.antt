@@ -1,153 +1,95 @@
 -- What the promise of a run accepts and refuses, of sheets of two unknowns.
-use Rattle.std.proofs.Common.{◌≡◌, ℕ, ◌<◌, ◌≤◌, Bool, true, false, cond, List, [], ◌∷◌, map, get_or, negsuc, ℤ, pos, Some, None, Ok, Err, Option, Result, refl, ap, subst, arith, lit<, w32, SFits}
+use Rattle.std.proofs.Common.{◌≡◌, ℕ, List, [], ◌∷◌, ◌++◌, map, get_or, ℤ, pos, negsuc, Ok, Err, refl, ap, subst, arith, lit<, w32, SFits}
 use Rattle.std.proofs.lemmas.Int.{ints}
 use Rattle.std.specs.List.{AllByRecursion}
-use Rattle.kinds.specs.Kind.{Arithmetic, Laws}
+use Rattle.faults.specs.declared.PageFault.TheVariants.{NoRoom}
+use Rattle.faults.specs.declared.SheetFault.TheVariants.{Page}
 use Rattle.kinds.specs.Sames.{same_eq}
 use Rattle.kinds.specs.Whole.{wholes}
 use Rattle.kinds.specs.Wholes.{equal, whole_laws}
 use Rattle.kinds.specs.declared.whole.WholeCell.{WholeCell}
-use Rattle.faults.specs.declared.SheetFault.{SheetFault}
-use Rattle.faults.specs.declared.SheetFault.TheVariants.{Count}
-use Rattle.plans.specs.Samples.{pair}
-use Rattle.plans.specs.Solution.{SameLists}
+use Rattle.lines.specs.Page.{Model as PageModel}
+use Rattle.plans.specs.SampleSolutions.{pair}
 use Rattle.plans.proofs.SameLists.{lists_head}
-use Rattle.sheets.specs.Clearing.{new_again, clear_left}
-use Rattle.sheets.specs.Posted.{answer_of}
-use Rattle.sheets.specs.Sheet.{Model, moves_after, stands, post_refusal, outcome_of, after_unless, post_left}
-use Rattle.sheets.specs.declared.posting.Verdict.{Verdict}
-use Rattle.sheets.specs.declared.posting.Verdict.TheVariants.{Taken, Implied}
-use Rattle.sheets.proofs.OneStep.{open_sound, open_spare, post_keeps, clear_law, clear_sound, clear_spare, pick_law}
-use Rattle.runs.specs.declared.call.Success.TheVariants.{Done, Implied as IsImplied}
-use Rattle.runs.specs.Calls.{Answered, Called, posting, clearing, picking, showing}
-use Rattle.runs.specs.Laws.{CallLaw, CallsLaw}
-use Rattle.runs.specs.Promise.{RightlyAnswered, Promise, PlanLeft}
-use Rattle.runs.specs.Run.{State, left_by, left}
-use Rattle.runs.specs.Samples.{cells_of, one_words, fresh, after_one, start, one_call, four_calls, sheet_of, far_words, near_words, two_calls, picked_calls, RunSamples}
-use Rattle.runs.proofs.Kept.{Keeps, paired, calls_promised, calls_leave_plan}
-use Rattle.runs.proofs.Unique.{one_right}
-use Rattle.runs.proofs.SampleCalls.{fresh_stands, other_number}
-use Rattle.runs.proofs.SampleSolutions.{no_double, not_pretended, not_one_kept}
-
--- the words that a call brings fit 32 bits
-abbrev CallFits : Called → Type 0
-CallFits (posting ws) = AllByRecursion (SFits w32) ws
-CallFits clearing = Unit {0}
-CallFits (picking choice) = AllByRecursion (SFits w32) choice
-CallFits showing = Unit {0}
-
-module _ {N C : Type 0} (a : Arithmetic N C) (laws : Laws a) where
-  -- no call leaves more moves than unknowns
-  abbrev Few : Model C → Type 0
-  Few m = m.moves ≤ m.unknowns
-
-  fewer : (r : Result Verdict SheetFault) (k n : ℕ) → k ≤ n → moves_after r k ≤ n
-  fewer (Ok Taken) k n h = omega arith
-  fewer (Ok Implied) k n h = h
-  fewer (Err fault) k n h = h
-
-  posting_few : (m : Model C) (ws : List ℤ) → Few m → Few (post_left a m ws)
-  posting_few m ws h = by (post_refusal a m ws)
-    where
-      by : (o : Option SheetFault) → Few (after_unless a o m (outcome_of a m ws))
-      by (Some fault) = h
-      by None = fewer (answer_of (outcome_of a m ws)) m.moves m.unknowns h
-
-  clearing_few : (m : Model C) → Few m → Few (clear_left a m)
-  clearing_few m h = by (stands m)
-    where
-      by : (b : Bool) → Few (cond b (new_again a m) m)
-      by true = omega arith
-      by false = h
-
-  call_few : (s : State C) (c : Called) → Few s.sheet → Few (left_by a s c).sheet
-  call_few s (posting ws) h = posting_few s.sheet ws h
-  call_few s clearing h = clearing_few s.sheet h
-  call_few s (picking choice) h = h
-  call_few s showing h = h
-
-  -- every call keeps to its law
-  call_lawful : (s : State C) (c : Called) → Few s.sheet → CallFits c → CallLaw a s c
-  call_lawful s (posting ws) few fits = let k = post_keeps a laws s.sheet few ws (λ _. fits) _ _ refl refl in record { refusals = k.refusals; law = k.law; sound = k.sound; spare = k.spare }
-  call_lawful s clearing few fits = record { law = clear_law a laws s.sheet; sound = clear_sound a laws s.sheet; spare = clear_spare a laws s.sheet }
-  call_lawful s (picking choice) few fits = pick_law a laws s.sheet few choice s.plan (λ _. fits)
-  call_lawful s showing few fits = tt
-
-  calls_lawful : (s : State C) (cs : List Called) → Few s.sheet → AllByRecursion CallFits cs → CallsLaw a s cs
-  calls_lawful s [] few fits = tt
-  calls_lawful s (c ∷ cs) few fits = (call_lawful s c few fits.0, calls_lawful (left_by a s c) cs (call_few s c few) fits.1)
+use Rattle.plans.proofs.SampleSolutions.{no_double, not_pretended, not_one_kept}
+use Rattle.sheets.specs.declared.call.Success.TheVariants.{Done}
+use Rattle.sheets.specs.Answers.{Answer}
+use Rattle.sheets.specs.Calls.{SheetCall, posting, Memory}
+use Rattle.sheets.specs.Cells.{needed, zero_cells}
+use Rattle.sheets.specs.Law.{Rightly}
+use Rattle.sheets.specs.SampleCalls.{fresh, after_one}
+use Rattle.sheets.specs.SampleSheets.{one_words}
+use Rattle.sheets.specs.Sheet.{Model, contents_of}
+use Rattle.sheets.proofs.NewSheets.{open_sound, open_spare}
+use Rattle.sheets.proofs.OneRight.{one_right}
+use Rattle.sheets.proofs.SampleCalls.{fresh_stands, other_number, row_fits, far_fits}
+use Rattle.runs.specs.Promise.{in_force, sheet_behind, Promise}
+use Rattle.runs.specs.Run.{CallMade, run_of, sheet_left}
+use Rattle.runs.specs.SampleRuns.{call_made, one_call, four_calls, two_calls, show_made, calls_picked, two_picked, calls_shown, shown_to, zero_page, RunSamples}
+use Rattle.runs.proofs.Kept.{Keeps, run_promised}
+use Rattle.runs.proofs.Lawful.{CallFits, Ready, calls_lawful}
 
 begins : Keeps wholes 2 [] fresh
-begins = record { unknowns = refl; sound = open_sound wholes whole_laws (pos 2) (pos 1) (cells_of []); spare = open_spare wholes whole_laws (pos 2) (pos 1) (cells_of []); holds = fresh_stands }
+begins = record {
+  unknowns = refl;
+  stands = fresh_stands;
+  sound = open_sound wholes whole_laws (pos 2) (pos 1) (zero_cells wholes (needed 2));
+  spare = open_spare wholes whole_laws (pos 2) (pos 1) (zero_cells wholes (needed 2));
+}
 
--- the promise, of calls on the new sheet
-promised : (cs : List Called) → AllByRecursion CallFits cs → Promise wholes start (paired wholes start cs) (left wholes start cs).sheet
-promised cs fits = calls_promised wholes 2 start cs begins (calls_lawful wholes whole_laws start cs (omega arith) fits)
+ready : Ready fresh
+ready = record { few = omega arith; room = λ _. omega arith }
 
-row_fits : (x y z : ℕ) → x < 100 → y < 100 → z < 100 → AllByRecursion (SFits w32) (pos x ∷ (pos y ∷ (pos z ∷ [])))
-row_fits x y z h k l = (fits x h, (fits y k, (fits z l, tt)))
-  where
-    fits : (n : ℕ) → n < 100 → SFits w32 (pos n)
-    fits n h = record { sfits = omega arith }
+-- what the calls brought, each with the memory that was lent to it
+abbrev lent_of : List CallMade → List (SheetCall × Memory)
+lent_of = map (λ c. (c.call, c.lent))
 
-two_fits : AllByRecursion (SFits w32) (pos 2 ∷ [])
-two_fits = (record { sfits = lit< tt }, tt)
+-- the promise, of calls on the new sheet that are answered as they should be
+promised : (calls : List CallMade) → AllByRecursion (λ r. CallFits r.0) (lent_of calls) → Promise wholes fresh (run_of wholes fresh (lent_of calls)) (sheet_left wholes fresh (map (λ r. r.0) (lent_of calls)))
+promised calls fits = run_promised wholes fresh (lent_of calls) (calls_lawful wholes whole_laws fresh (lent_of calls) ready fits) begins
 
 one_fits : AllByRecursion (SFits w32) one_words
 one_fits = row_fits 3 5 1 (lit< tt) (lit< tt) (lit< tt)
 
-kept : Promise wholes start (one_call (Ok Done)) after_one
-kept = promised (posting one_words ∷ []) (one_fits, tt)
+two_fits : AllByRecursion (SFits w32) (pos 2 ∷ [])
+two_fits = (record { sfits = lit< tt }, tt)
 
-four_kept : Promise wholes start four_calls fresh
-four_kept = promised (map (λ (call : Called × Answered). call.0) four_calls) (one_fits, (row_fits 6 10 2 (lit< tt) (lit< tt) (lit< tt), (row_fits 6 10 3 (lit< tt) (lit< tt) (lit< tt), (tt, tt))))
+kept : Promise wholes fresh (one_call (Ok Done)) after_one
+kept = promised (one_call (Ok Done)) (one_fits, tt)
 
-far_fits : AllByRecursion (SFits w32) far_words
-far_fits = (record { sfits = omega arith }, (record { sfits = lit< tt }, (record { sfits = omega arith }, tt)))
-
-overflow_kept : Promise wholes start two_calls (sheet_of 1 (pos 0 ∷ (pos 0 ∷ (negsuc 2147483646 ∷ (negsuc 0 ∷ [])))))
-overflow_kept = promised (posting far_words ∷ (posting near_words ∷ [])) (far_fits, (row_fits 1 1 0 (lit< tt) (lit< tt) (lit< tt), tt))
+-- a call of a run that keeps the promise is rightly answered, by the two unknowns of the new sheet
+rightly : (calls : List CallMade) (m : Model WholeCell) → Promise wholes fresh calls m → (before behind : List CallMade) (c : CallMade) → calls ≡ before ++ (c ∷ behind) →
+    Rightly wholes 2 (in_force 2 before) (contents_of wholes (sheet_behind wholes fresh before)) c.call c.lent c.answer c.left
+rightly calls m p before behind c e =
+    subst (λ (n : ℕ). Rightly wholes n (in_force n before) (contents_of wholes (sheet_behind wholes fresh before)) c.call c.lent c.answer c.left) p.unknowns (p.rightly before behind c e)
 
 -- the one answer of the posting is right, whatever sheet is left
-one_answer : (r : Answered) (m : Model WholeCell) → Promise wholes start (one_call r) m → r ≡ Ok Done
+one_answer : (r : Answer) (m : Model WholeCell) → Promise wholes fresh (one_call r) m → r ≡ Ok Done
 one_answer r m p =
-    let right : RightlyAnswered wholes 2 [] fresh one_words r = subst (λ n. RightlyAnswered wholes n [] fresh one_words r) p.unknowns (p.postings [] [] one_words r refl) in
-    one_right wholes 2 [] fresh one_words r (Ok Done) right (kept.postings [] [] one_words (Ok Done) refl)
-
-unknowns_lost : ¬ Promise wholes start (one_call (Ok Done)) (record { cells = after_one.cells; unknowns = 0; moves = 0; list = 1 })
-unknowns_lost p = let e : ◌≡◌ {A = ℕ} 0 2 = p.unknowns in absurd cc
-
-picked_kept : PlanLeft wholes start picked_calls after_one (pair (negsuc 12) (pos 8))
-picked_kept =
-    calls_leave_plan wholes 2 start (map (λ (call : Called × Answered). call.0) picked_calls) begins
-    (calls_lawful wholes whole_laws start (map (λ (call : Called × Answered). call.0) picked_calls) (omega arith) (one_fits, (two_fits, (one_fits, (tt, tt)))))
-
-move_skipped : ¬ PlanLeft wholes start picked_calls after_one (pair (negsuc 2) (pos 2))
-move_skipped p =
-    let made : SameLists 0 (pair (negsuc 2) (pos 2)) (pair (negsuc 12) (pos 8)) = (p.is_made (one_call (Ok Done)) ((posting one_words, Ok IsImplied) ∷ ((picking [], Err Count) ∷ [])) (pos 2 ∷ []) refl (tt, (λ e. absurd cc, tt)) (λ e. absurd cc, (tt, tt))).is_made in
-    other_number (equal (lists_head made))
-
-no_plan : ¬ PlanLeft wholes start picked_calls after_one (pair (pos 0) (pos 0))
-no_plan p =
-    let meets = (p.meets (one_call (Ok Done)) ((posting one_words, Ok IsImplied) ∷ ((picking [], Err Count) ∷ [])) (pos 2 ∷ []) refl (tt, (λ e. absurd cc, tt))).1 in
-    let e : pos 0 ≡ pos 1 = equal meets.0 in omega (arith, ints)
-
-words_changed : ¬ PlanLeft wholes start (one_call (Ok Done)) after_one (pair (negsuc 2) (pos 2))
-words_changed p = let e = ap (λ (ws : List ℤ). get_or ws 0 (pos 0)) (p.kept (tt, tt)) in omega (arith, ints)
+    (one_right wholes).posted 2 [] (contents_of wholes fresh) one_words r (Ok Done)
+    (rightly (one_call r) m p [] [] (call_made (posting one_words) r) refl).0
+    (rightly (one_call (Ok Done)) after_one kept [] [] (call_made (posting one_words) (Ok Done)) refl).0
 
 pub runs : RunSamples
 runs = record {
   kept = kept;
-  four_kept = four_kept;
-  overflow_kept = overflow_kept;
+  four_kept = promised four_calls (one_fits, (row_fits 6 10 2 (lit< tt) (lit< tt) (lit< tt), (row_fits 6 10 3 (lit< tt) (lit< tt) (lit< tt), (tt, tt))));
+  overflow_kept = promised two_calls (far_fits, (row_fits 1 1 0 (lit< tt) (lit< tt) (lit< tt), tt));
   plan_there = (same_eq refl, (same_eq refl, tt));
   one_answer = one_answer;
   doubled = λ p. no_double p.general.general;
   pretended = λ p. not_pretended p.general.general;
-  unknowns_lost = unknowns_lost;
+  unknowns_lost = λ p. let e : ◌≡◌ {A = ℕ} 0 2 = p.unknowns in absurd cc;
   one_kept = λ p. not_one_kept p.general.general;
-  picked_kept = picked_kept;
-  move_skipped = move_skipped;
-  no_plan = no_plan;
-  words_changed = words_changed;
+  picked_kept = promised (calls_picked (pos 2 ∷ []) (Ok Done) (pair (negsuc 12) (pos 8))) (one_fits, (two_fits, tt));
+  two_kept = promised two_picked (one_fits, (two_fits, (two_fits, tt)));
+  move_skipped = λ m p. other_number (equal (lists_head ((rightly _ m p (one_call (Ok Done)) [] _ refl).0.is_made refl)));
+  no_plan = λ m p. let e : pos 0 ≡ pos 1 = equal ((rightly _ m p (one_call (Ok Done)) [] _ refl).0.meets refl).1.0 in omega (arith, ints);
+  words_changed = λ m p. let e = ap (λ (ws : List ℤ). get_or ws 0 (pos 0)) ((rightly _ m p (one_call (Ok Done)) [] _ refl).0.kept (λ e. absurd cc)) in omega (arith, ints);
+  shown_kept = promised (calls_shown (shown_to (zero_page 50))) (one_fits, (tt, (tt, (tt, tt))));
+  nothing_shown = λ m p.
+      let posted = call_made (posting one_words) (Ok Done) in
+      let before = posted ∷ (show_made (zero_page 42) (Ok Done) (shown_to (zero_page 42)) ∷ (show_made (zero_page 41) (Err (Page NoRoom)) (zero_page 41) ∷ [])) in
+      let e : ◌≡◌ {A = ℕ} 0 42 = ap (λ (page : PageModel). page.end) ((rightly _ m p before [] _ refl).0.shown refl) in
+      absurd cc;
 }

@@ -1,60 +1,67 @@
--- What a run of calls answers, call by call, and what it leaves. Assumes nothing.
-use Rattle.std.specs.Prelude.{List, [], ◌∷◌, ℤ}
+-- The calls of a run, each with the memory that it brings, and what they come to. Assumes nothing.
+use Rattle.std.specs.Prelude.{ℕ, List, [], ◌∷◌, map}
 use Rattle.kinds.specs.Kind.{Arithmetic}
-use Rattle.lines.specs.Page.{Model as PageModel, model as page_model}
-use Rattle.lines.specs.declared.page.Page.{Page}
-use Rattle.sheets.specs.Clearing.{clear_answer, clear_left}
-use Rattle.sheets.specs.Picking.{pick_answer, pick_left}
-use Rattle.sheets.specs.Sheet.{Model, model_of, outline_of, opened, post_answer, post_left}
-use Rattle.sheets.specs.Showing.{show_answer, show_left}
-use Rattle.sheets.specs.declared.shape.Outline.{Outline}
-use Rattle.sheets.specs.declared.sheet.Sheet.{Sheet}
-use Rattle.runs.specs.Calls.{Answered, Called, posting, clearing, picking, showing, verdict_answer, plain_answer}
+use Rattle.lines.specs.Page.{model as page_model}
+use Rattle.runs.specs.declared.step.Step.{Step}
+use Rattle.sheets.specs.Answers.{Answer}
+use Rattle.sheets.specs.Calls.{SheetCall, sheet_call, Memory, memory, answer_to, sheet_after, memory_after}
+use Rattle.sheets.specs.Law.{CallLaw}
+use Rattle.sheets.specs.Sheet.{Model}
 
--- what the calls of a run act on: the sheet, the words that a picked plan is written to, and the page
-pub record State (C : Type 0) : Type 0 where
-  pub sheet : Model C
-  pub plan : List ℤ
-  pub page : PageModel
+-- the memory that a step brings
+abbrev pub memory_of : Step → Memory
+memory_of step = memory step.words.now (page_model step.page)
 
-abbrev pub state_of : {C : Type 0} → List C → Outline → List ℤ → Page → State C
-state_of cells outline plan page = record { sheet = model_of cells outline; plan = plan; page = page_model page }
+-- whose memory it is
+abbrev pub memory_names : Step → ℕ × ℕ
+memory_names step = (step.words.ghost_name, step.page.bytes.ghost_name)
 
-abbrev pub state : {N C : Type 0} → Sheet N C → List ℤ → Page → State C
-state sheet plan page = state_of sheet.cells.now (outline_of sheet) plan page
+-- the calls of steps, without and with the memory that is lent to each
+abbrev pub calls_in : List Step → List SheetCall
+calls_in = map (λ step. sheet_call step.call)
 
-abbrev pub with_sheet : {C : Type 0} → State C → Model C → State C
-with_sheet s sheet = record { sheet = sheet; plan = s.plan; page = s.page }
+abbrev pub calls_lent : List Step → List (SheetCall × Memory)
+calls_lent = map (λ step. (sheet_call step.call, memory_of step))
 
-abbrev pub with_plan : {C : Type 0} → State C → List ℤ → State C
-with_plan s plan = record { sheet = s.sheet; plan = plan; page = s.page }
+-- a call that was made: what was lent to it, what it was answered, and what it left of its memory
+pub record CallMade : Type 0 where
+  pub call : SheetCall
+  pub lent : Memory
+  pub answer : Answer
+  pub left : Memory
 
-abbrev pub with_page : {C : Type 0} → State C → PageModel → State C
-with_page s page = record { sheet = s.sheet; plan = s.plan; page = page }
+-- the calls that were made of the steps `before` a run, these being the steps `after` it
+abbrev pub calls_made : List Step → List Step → List CallMade
+calls_made [] after = []
+calls_made (s ∷ before) [] = []
+calls_made (s ∷ before) (t ∷ after) =
+    record { call = sheet_call s.call; lent = memory_of s; answer = t.answer; left = memory_of t }
+    ∷ calls_made before after
 
 module _ {N C : Type 0} (a : Arithmetic N C) where
-  -- the answer to one call, and what the call leaves
-  abbrev pub answer_to : State C → Called → Answered
-  answer_to s (posting ws) = verdict_answer (post_answer a s.sheet ws)
-  answer_to s clearing = plain_answer (clear_answer s.sheet)
-  answer_to s (picking choice) = plain_answer (pick_answer a s.sheet choice s.plan)
-  answer_to s showing = plain_answer (show_answer s.sheet s.page)
+  -- a call made on the sheet m
+  abbrev pub made_on : Model C → SheetCall × Memory → CallMade
+  made_on m lent_call = record {
+    call = lent_call.0;
+    lent = lent_call.1;
+    answer = answer_to a m lent_call.1 lent_call.0;
+    left = memory_after a m lent_call.1 lent_call.0;
+  }
 
-  abbrev pub left_by : State C → Called → State C
-  left_by s (posting ws) = with_sheet s (post_left a s.sheet ws)
-  left_by s clearing = with_sheet s (clear_left a s.sheet)
-  left_by s (picking choice) = with_plan s (pick_left a s.sheet choice s.plan)
-  left_by s showing = with_page s (show_left a s.sheet s.page)
+  -- calls made one after the other, from the sheet m on
+  abbrev pub run_of : Model C → List (SheetCall × Memory) → List CallMade
+  run_of m [] = []
+  run_of m (lent_call ∷ lent_calls) = made_on m lent_call ∷ run_of (sheet_after a m lent_call.0) lent_calls
 
-  -- the answers to calls made one after the other, and what they leave
-  abbrev pub answers : State C → List Called → List Answered
-  answers s [] = []
-  answers s (c ∷ cs) = answer_to s c ∷ answers (left_by s c) cs
+  -- the sheet that they leave
+  abbrev pub sheet_left : Model C → List SheetCall → Model C
+  sheet_left m [] = m
+  sheet_left m (call ∷ calls) = sheet_left (sheet_after a m call) calls
 
-  abbrev pub left : State C → List Called → State C
-  left s [] = s
-  left s (c ∷ cs) = left (left_by s c) cs
-
-  -- where a run begins: a sheet opened over the cells, whatever the plan's words and the page are
-  abbrev pub begun : ℤ → ℤ → List C → List ℤ → PageModel → State C
-  begun unknowns list cells plan page = record { sheet = opened a unknowns list cells; plan = plan; page = page }
+  -- each call keeps to its law, on the sheet that those before it leave
+  abbrev pub CallsLaw : Model C → List (SheetCall × Memory) → Type 0
+  CallsLaw m [] = Unit {0}
+  CallsLaw m (lent_call ∷ lent_calls) =
+      CallLaw a m lent_call.0 lent_call.1 (answer_to a m lent_call.1 lent_call.0)
+      (sheet_after a m lent_call.0) (memory_after a m lent_call.1 lent_call.0)
+      × CallsLaw (sheet_after a m lent_call.0) lent_calls

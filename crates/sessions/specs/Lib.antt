@@ -1,7 +1,8 @@
 -- The definitions that contracts of sessions cite, a file each.
 pub mod Frames
-pub mod Law
-pub mod Lines
-pub mod Samples
+pub mod Requests
 pub mod Session
+pub mod Law
+pub mod Promise
+pub mod Samples
 pub mod Wiped

@@ -1,17 +1,17 @@
-// What a line asks of a session, and what came of it.
+// What a line asks of a session.
 ghost use Rattle.std.specs.Prelude.{◌≡◌};
-ghost use Rattle.sessions.specs.Frames.{frame_named, kind_named, answer_number, answer_place, placed, Placeable};
+ghost use Rattle.sessions.specs.Frames.{frame_named, kind_named, call_for, call_found, answer_place, placed, Placeable};
 
 use faults::{LineFault, NumberFault, SheetFault};
 use kinds::kind::Kind;
 use kinds::weekday::Weekday;
 use kinds::whole::Whole;
-use sheets::posting::Verdict;
+use sheets::call::{Answer, Call};
 
-// The frames that a session knows.
+/// The frames that a session knows.
 pub const KNOWN: [u8; 5] = [0x01, 0x02, 0x03, 0x04, 0x05];
 
-// What a line asks of the sheet that is open. A run's calls are an enum of their own, since they hold their words.
+/// What a line asks of the sheet that is open.
 #[derive(Clone, Copy, Debug, PartialEq, Eq)]
 pub enum Request {
     Equation,
@@ -20,28 +20,33 @@ pub enum Request {
     Show,
 }
 
-// What a line asks for. Kept as an enum: an opening is a frame too, and not the lack of a request.
+impl Request {
+    // The call that the request asks for with a line's numbers.
+    pub(crate) fn call(self, numbers: &[i32]) -> Result<Call<'_>, SheetFault>
+        ensures { call_found result ≡ call_for self numbers.now }
+    {
+        match self {
+            Request::Equation => Ok(Call::Post(numbers)),
+            Request::Pick => Ok(Call::Pick(numbers)),
+            Request::Clear if numbers.is_empty() => Ok(Call::Clear),
+            Request::Show if numbers.is_empty() => Ok(Call::Show),
+            Request::Clear | Request::Show => Err(SheetFault::Count),
+        }
+    }
+}
+
+/// What a line asks for.
 #[derive(Clone, Copy, Debug, PartialEq, Eq)]
 pub enum Frame {
     Open,
     Ask(Request),
 }
 
-// The kind of number that an opening chooses.
+/// The kind of number that an opening chooses.
 #[derive(Clone, Copy, Debug, PartialEq, Eq)]
 pub enum Chosen {
     Whole,
     Weekday,
-}
-
-// What came of a line that is not refused.
-#[derive(Clone, Copy, Debug, PartialEq, Eq)]
-pub enum Done {
-    Opened,
-    Posted(Verdict),
-    Cleared,
-    Picked,
-    Shown,
 }
 
 impl TryFrom<u8> for Frame {
@@ -76,7 +81,7 @@ impl TryFrom<i32> for Chosen {
     }
 }
 
-// A direct call's fault, with its place in the line whose numbers were handed to the call. No `From`: one type.
+// A direct call's fault, with its place in the line whose numbers were handed to the call.
 pub(crate) fn placed_in_line(fault: SheetFault) -> SheetFault
     requires { Placeable fault }
     ensures { result ≡ placed fault }
@@ -96,20 +101,8 @@ pub(crate) fn placed_in_line(fault: SheetFault) -> SheetFault
     }
 }
 
-// The number of an answer.
-// Kept beside the one of a run's answers: a session's say what was done, by which the lines behind them are chosen.
-pub(crate) fn number_of(answer: Result<Done, SheetFault>) -> i32
-    ensures { result ≡ answer_number answer }
-{
-    match answer {
-        Ok(Done::Posted(Verdict::Implied)) => 1,
-        Ok(_) => 0,
-        Err(fault) => fault.number() as i32,
-    }
-}
-
-// The place of an answer: the byte of the line at fault, or -1. Kept as one number: the format writes a place so.
-pub(crate) fn place_of(answer: Result<Done, SheetFault>) -> i32
+// The place of an answer: the byte of the line at fault, or -1 for none, as the format writes it.
+pub(crate) fn place_of(answer: Answer) -> i32
     ensures { result ≡ answer_place answer }
 {
     match answer {

@@ -1,17 +1,25 @@
-// A sheet's calls on the cells of a session, for every kind alike. Faults have their place in the line.
-// Kept with a `requires` on a line's numbers: posting and picking are public and take plain words.
-ghost use Rattle.std.specs.Prelude.{◌≡◌, ◌≤◌, length, Some, None, Ok, Err, MatchResult};
-ghost use Rattle.lines.specs.Page.{model as page_model};
-ghost use Rattle.sheets.specs.Sheet.{model, model_of, checked, opened, post_answer, post_left};
-ghost use Rattle.sheets.specs.Showing.{show_left};
-ghost use Rattle.sessions.specs.Lines.{checked_in_line, posted_done, numbers_refusal, show_check_lem as show_check_of, clear_done, clear_in_line, pick_done, plan_left, ask_answer, ask_left, ask_plan};
+// What a line asks of the sheet that a session is on, for every kind alike. Faults have their place in the line.
+// A line's numbers are few by a `requires`: posting and picking are public and take any words.
+ghost use Rattle.std.specs.Prelude.{◌≡◌, ◌≤◌, length, Ok, OnOk, OnErr, IfOk, IfErr};
+ghost use Rattle.lines.specs.Page.{model as page_model, with_text, HasRoom};
+ghost use Rattle.sheets.specs.Calls.{sheet_call};
+ghost use Rattle.sheets.specs.Cells.{needed};
+ghost use Rattle.sheets.specs.Sheet.{model, model_of, checked, opened, most_unknowns};
+ghost use Rattle.sessions.specs.Frames.{placed_result};
+ghost use Rattle.sessions.specs.Requests.{rest_length, picked_text, answer_by, sheet_by, text_by, unplaced_answer, request_answer, request_left, request_text};
 
-use crate::frame::{Done, Request, placed_in_line};
-use faults::{LineFault, SheetFault};
+use crate::frame::{Request, placed_in_line};
+use faults::SheetFault;
 use kinds::kind::Kind;
 use lines::page::Page;
+use lines::reading::MOST_NUMBERS;
+use lines::writing::write_line;
+use sheets::call::{Answer, Call};
 use sheets::shape::{MOST_UNKNOWNS, Outline};
 use sheets::sheet::{Sheet, check};
+
+// The frame of a picked plan.
+const PICKED_PLAN: u8 = 0x82;
 
 // Opens a new sheet, unless the check refuses.
 pub(crate) fn open_on<K: Kind>(
@@ -19,120 +27,91 @@ pub(crate) fn open_on<K: Kind>(
     unknowns: i32,
     list: i32,
 ) -> Result<Outline, SheetFault>
-    ensures { MatchResult result (λ outline. (checked unknowns list (length cells.old) ≡ Ok tt) × (model_of cells.new outline ≡ opened K.Kind.arith unknowns list cells.old)) (λ fault. (cells.new ≡ cells.old) × (checked_in_line (checked unknowns list (length cells.old)) ≡ Err fault)) }
+    ensures accepted { OnOk result (checked unknowns list (length cells.old) ≡ Ok tt) }
+    ensures opened { IfOk result
+        (λ outline. model_of cells.new outline ≡ opened K.Kind.arith unknowns list cells.old) }
+    ensures refused { IfErr result
+        (λ fault. placed_result (checked unknowns list (length cells.old)) ≡ Err fault) }
+    ensures kept { OnErr result (cells.new ≡ cells.old) }
 {
     check::<K>(unknowns, list, cells).map_err(placed_in_line)?;
     let sheet = Sheet::<K>::open(cells, unknowns, list);
     Ok(sheet.outline())
 }
 
-// Posts the numbers of an equation line.
-fn post<K: Kind>(sheet: &mut Sheet<K>, words: &[i32]) -> Result<Done, SheetFault>
-    requires { length words.now ≤ 25 }
-    ensures held { sheet.new.cells.ghost_name ≡ sheet.old.cells.ghost_name }
-    ensures answer { result ≡ posted_done (post_answer K.Kind.arith (model sheet.old) words.now) }
-    ensures left { model sheet.new ≡ post_left K.Kind.arith (model sheet.old) words.now }
+// Writes the line of a plan, where it was picked.
+fn write_picked(page: &mut Page, answer: Answer, words: &[i32])
+    requires few { length words.now ≤ most_unknowns }
+    requires room { HasRoom (page_model page.old) rest_length }
+    ensures held { page.new.bytes.ghost_name ≡ page.old.bytes.ghost_name }
+    ensures model { page_model page.new ≡
+        with_text (page_model page.old) (picked_text answer words.now) }
 {
-    sheet.post(words).map_err(placed_in_line).map(Done::Posted)
+    if answer.is_ok() {
+        write_line(page, PICKED_PLAN, words).unwrap();
+    }
 }
 
-// Refuses a line that must have no numbers.
-fn no_numbers<K: Kind>(sheet: &Sheet<K>, words: &[i32]) -> Result<(), SheetFault>
-    ensures { MatchResult result (λ _. numbers_refusal (model sheet.now) words.now ≡ None) (λ fault. numbers_refusal (model sheet.now) words.now ≡ Some fault) }
+// Makes a call on memory of the session, and writes the lines behind its answer.
+fn make_call<K: Kind>(sheet: &mut Sheet<K>, call: &Call, page: &mut Page) -> Answer
+    requires { HasRoom (page_model page.old) rest_length }
+    ensures held { sheet.new.cells.ghost_name ≡ sheet.old.cells.ghost_name }
+    ensures page_held { page.new.bytes.ghost_name ≡ page.old.bytes.ghost_name }
+    ensures answer { result ≡ answer_by K.Kind.arith (model sheet.old) (Ok (sheet_call call.now)) }
+    ensures sheet { model sheet.new ≡
+        sheet_by K.Kind.arith (model sheet.old) (Ok (sheet_call call.now)) }
+    ensures page { page_model page.new ≡ with_text (page_model page.old)
+        (text_by K.Kind.arith (model sheet.old) (Ok (sheet_call call.now))) }
+{
+    let mut plan = [0; MOST_UNKNOWNS];
+    let words = &mut plan[..sheet.outline().unknowns()];
+    let answer = sheet.make(call, words, page);
+    if let Call::Pick(_) = call {
+        write_picked(page, answer, words);
+    }
+    answer
+}
+
+// Makes the call that a request asks for, and writes the lines behind its answer.
+fn ask<K: Kind>(sheet: &mut Sheet<K>, request: Request, numbers: &[i32], page: &mut Page) -> Answer
+    requires { HasRoom (page_model page.old) rest_length }
+    ensures held { sheet.new.cells.ghost_name ≡ sheet.old.cells.ghost_name }
+    ensures page_held { page.new.bytes.ghost_name ≡ page.old.bytes.ghost_name }
+    ensures answer { result ≡ unplaced_answer K.Kind.arith (model sheet.old) request numbers.now }
+    ensures sheet { model sheet.new ≡
+        request_left K.Kind.arith (model sheet.old) request numbers.now }
+    ensures page { page_model page.new ≡ with_text (page_model page.old)
+        (request_text K.Kind.arith (model sheet.old) request numbers.now) }
 {
     if !sheet.stands() {
         return Err(SheetFault::NoSheet);
     }
-    if !words.is_empty() {
-        return Err(SheetFault::Line(LineFault::Count));
-    }
-    Ok(())
+    let call = request.call(numbers)?;
+    make_call(sheet, &call, page)
 }
 
-// Clears the sheet, as a line without numbers asks.
-fn clear<K: Kind>(sheet: &mut Sheet<K>, words: &[i32]) -> Result<Done, SheetFault>
-    ensures held { sheet.new.cells.ghost_name ≡ sheet.old.cells.ghost_name }
-    ensures answer { result ≡ clear_done (model sheet.old) words.now }
-    ensures left { model sheet.new ≡ clear_in_line K.Kind.arith (model sheet.old) words.now }
-{
-    no_numbers(sheet, words)?;
-    sheet.clear().unwrap();
-    Ok(Done::Cleared)
-}
-
-// Picks the plan of a choice, into the first words of `plan`.
-fn pick<K: Kind>(
-    sheet: &Sheet<K>,
-    choice: &[i32],
-    plan: &mut [i32; MOST_UNKNOWNS],
-) -> Result<Done, SheetFault>
-    requires { length choice.now ≤ 25 }
-    ensures answer { result ≡ pick_done K.Kind.arith (model sheet.now) choice.now }
-    ensures plan { plan.new ≡ plan_left K.Kind.arith (model sheet.now) choice.now plan.old }
-{
-    let n = sheet.outline().unknowns();
-    sheet
-        .pick(choice, &mut plan[..n])
-        .map_err(placed_in_line)
-        .map(|()| Done::Picked)
-}
-
-// Whether the sheet can be shown, as a line without numbers asks.
-fn show_check<K: Kind>(sheet: &Sheet<K>, words: &[i32]) -> Result<Done, SheetFault>
-    ensures { result ≡ show_check_of (model sheet.now) words.now }
-{
-    no_numbers(sheet, words)?;
-    Ok(Done::Shown)
-}
-
-// Does what a line asks of a sheet, with its numbers: a match, since only reading the line tells what is asked. A
-// picked plan is put into the first words of `plan`. Showing is only checked: its lines are written behind the answer.
-fn ask<K: Kind>(
-    sheet: &mut Sheet<K>,
-    request: Request,
-    words: &[i32],
-    plan: &mut [i32; MOST_UNKNOWNS],
-) -> Result<Done, SheetFault>
-    requires { length words.now ≤ 25 }
-    ensures held { sheet.new.cells.ghost_name ≡ sheet.old.cells.ghost_name }
-    ensures answer { result ≡ ask_answer K.Kind.arith (model sheet.old) request words.now }
-    ensures left { model sheet.new ≡ ask_left K.Kind.arith (model sheet.old) request words.now }
-    ensures plan { plan.new ≡ ask_plan K.Kind.arith (model sheet.old) request words.now plan.old }
-{
-    match request {
-        Request::Equation => post(sheet, words),
-        Request::Clear => clear(sheet, words),
-        Request::Pick => pick(sheet, words, plan),
-        Request::Show => show_check(sheet, words),
-    }
-}
-
-// Takes a session's sheet up again in its cells, and does what a line asks of it. Cells and outline are kept apart: the
-// cells of each kind are a field of their own, and the outline is that of either.
+// Takes a session's sheet up again in its cells, does what a line asks of it, and writes the lines behind its answer.
 pub(crate) fn ask_on<K: Kind>(
     cells: &mut [K::Cell],
     outline: &mut Outline,
     request: Request,
-    words: &[i32],
-    plan: &mut [i32; MOST_UNKNOWNS],
-) -> Result<Done, SheetFault>
-    requires { length words.now ≤ 25 }
-    ensures answer { result ≡ ask_answer K.Kind.arith (model_of cells.old outline.old) request words.now }
-    ensures left { model_of cells.new outline.new ≡ ask_left K.Kind.arith (model_of cells.old outline.old) request words.now }
-    ensures plan { plan.new ≡ ask_plan K.Kind.arith (model_of cells.old outline.old) request words.now plan.old }
-{
-    let mut sheet = Sheet::<K>::resume(cells, *outline);
-    let answer = ask(&mut sheet, request, words, plan);
-    *outline = sheet.outline();
-    answer
-}
-
-// Shows the sheet on a page; where the page cannot take it, the page is kept.
-pub(crate) fn show_on<K: Kind>(cells: &mut [K::Cell], outline: Outline, page: &mut Page)
+    numbers: &[i32],
+    page: &mut Page,
+) -> Answer
+    requires cells { needed most_unknowns ≤ length cells.old }
+    requires few { length numbers.now ≤ MOST_NUMBERS }
+    requires room { HasRoom (page_model page.old) rest_length }
     ensures held { page.new.bytes.ghost_name ≡ page.old.bytes.ghost_name }
-    ensures kept { cells.new ≡ cells.old }
-    ensures page { page_model page.new ≡ show_left K.Kind.arith (model_of cells.old outline) (page_model page.old) }
+    ensures answer { result ≡
+        request_answer K.Kind.arith (model_of cells.old outline.old) request numbers.now }
+    ensures left { model_of cells.new outline.new
+        ≡ request_left K.Kind.arith (model_of cells.old outline.old) request numbers.now }
+    ensures page { page_model page.new ≡ with_text (page_model page.old)
+        (request_text K.Kind.arith (model_of cells.old outline.old) request numbers.now) }
 {
-    let sheet = Sheet::<K>::resume(cells, outline);
-    let _ = sheet.show(page);
+    let mut sheet = Sheet::<K>::empty(cells);
+    sheet.resume(*outline)?;
+    let answer = ask(&mut sheet, request, numbers, page);
+    *outline = sheet.outline();
+    answer.map_err(placed_in_line)
 }

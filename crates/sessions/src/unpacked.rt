@@ -1,5 +1,5 @@
 // The lent words that a line is unpacked into.
-ghost use Rattle.std.specs.Prelude.{◌≡◌, ◌≤◌, length, take, Some, None, MatchResult};
+ghost use Rattle.std.specs.Prelude.{◌≡◌, ◌≤◌, length, take, Some, None, OnOk, IfOk, IfErr};
 ghost use Rattle.lines.specs.Line.{frame_of as line_frame, numbers, refusal};
 ghost use Rattle.sessions.specs.Frames.{known, frame_kind};
 ghost use Rattle.sessions.specs.Wiped.{wiped};
@@ -44,9 +44,14 @@ impl<'a> Unpacked<'a> {
 
     // Reads a line that a session knows, its numbers into the first words, and tells what it asks for.
     pub(crate) fn read(&mut self, line: &[u8]) -> Result<Frame, LineFault>
-        requires { 25 ≤ length self.old.words.now }
+        requires { MOST_NUMBERS ≤ length self.old.words.now }
         ensures held { self.new.words.ghost_name ≡ self.old.words.ghost_name }
-        ensures asked { MatchResult result (λ frame. (refusal known line.now ≡ None) × (frame ≡ frame_kind (line_frame line.now)) × (self.new.count ≤ 25) × (take self.new.count self.new.words.now ≡ numbers line.now)) (λ fault. refusal known line.now ≡ Some fault) }
+        ensures accepted { OnOk result (refusal known line.now ≡ None) }
+        ensures frame { IfOk result (λ frame. frame ≡ frame_kind (line_frame line.now)) }
+        ensures few { OnOk result (self.new.count ≤ MOST_NUMBERS) }
+        ensures numbers { OnOk result
+            (take self.new.count self.new.words.now ≡ numbers line.now) }
+        ensures refused { IfErr result (λ fault. refusal known line.now ≡ Some fault) }
         ensures len { length self.new.words.now ≡ length self.old.words.now }
         ensures wiped { wiped self.new.words.now ≡ wiped self.old.words.now }
     {

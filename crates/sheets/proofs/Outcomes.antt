@@ -1,14 +1,13 @@
 -- What a posting comes to, from its steps.
-use Rattle.std.proofs.Common.{◌≡◌, ℕ, suc, ◌+◌, ◌-◌, ◌*◌, ◌<◌, ◌≤◌, List, [], ◌++◌, map, length, get_or, take, drop, Some, None, Ok, Result, sym, refl, ap, ◌∙◌, subst, inr, zero-add, mul-one, mul-add, arith}
+use Rattle.std.proofs.Common.{◌≡◌, ℕ, suc, ◌+◌, ◌-◌, ◌*◌, ◌<◌, ◌≤◌, List, [], ◌++◌, map, length, get_or, take, drop, Some, None, Ok, sym, refl, ap, ◌∙◌, subst, inr, zero-add, mul-one, mul-add, arith}
 use Rattle.std.proofs.ByRecursion.{All-from_get_or}
 use Rattle.std.proofs.lemmas.List.{length-replicate, take_at, drop_at, drop-drop, get_or-take}
-use Rattle.faults.specs.declared.SheetFault.{SheetFault}
 use Rattle.kinds.specs.Kind.{Arithmetic}
 use Rattle.lines.specs.Page.{over}
 use Rattle.plans.specs.Posting.{Column, Outcome, taken, contradicted, overflow, normalised, rounds, total_size, finish, worked, without}
 use Rattle.plans.specs.Sheet.{Contents}
-use Rattle.sheets.specs.declared.posting.Verdict.{Verdict}
-use Rattle.sheets.specs.declared.posting.Verdict.TheVariants.{Taken}
+use Rattle.sheets.specs.declared.call.Success.TheVariants.{Done}
+use Rattle.sheets.specs.Answers.{Answer}
 use Rattle.sheets.specs.Cells.{main_cells, spare_cells, needed, part, number, numbers, number_at, zero_cells, main_of}
 use Rattle.sheets.specs.Combining.{Within}
 use Rattle.sheets.specs.Posted.{answer_of, main_after, cells_after, Settled}
@@ -24,7 +23,7 @@ use Rattle.sheets.proofs.Standing.{length_over}
 
 module _ {N C : Type 0} (a : Arithmetic N C) (n p k : ℕ) (place : p ≡ n * (n + 1)) where
   -- an outcome that leaves the main cells
-  pub settled_kept : (o : Outcome N) (r : Result Verdict SheetFault) (cs ds : List C) → r ≡ answer_of o → main_after a o n cs ≡ take (main_cells n) cs → Within p (work_cells a n k) cs ds → Settled a o n p k cs r ds
+  pub settled_kept : (o : Outcome N) (r : Answer) (cs ds : List C) → r ≡ answer_of o → main_after a o n cs ≡ take (main_cells n) cs → Within p (work_cells a n k) cs ds → Settled a o n p k cs r ds
   settled_kept o r cs ds e m w =
       record {
         answer = e;
@@ -34,7 +33,7 @@ module _ {N C : Type 0} (a : Arithmetic N C) (n p k : ℕ) (place : p ≡ n * (n
       }
 
   -- the main cells written
-  pub settled_taken : (s : Contents N) (cs ds es : List C) → Within p (work_cells a n k) cs ds → length (main_of a n s) ≡ main_cells n → p ≤ length cs → es ≡ over ds 0 (main_of a n s) → Settled a (taken s) n p k cs (Ok Taken) es
+  pub settled_taken : (s : Contents N) (cs ds es : List C) → Within p (work_cells a n k) cs ds → length (main_of a n s) ≡ main_cells n → p ≤ length cs → es ≡ over ds 0 (main_of a n s) → Settled a (taken s) n p k cs (Ok Done) es
   settled_taken s cs ds es w l h e =
       let M = main_of a n s in
       let z = zero-add (length M) in
@@ -74,7 +73,7 @@ module _ {N C : Type 0} (a : Arithmetic N C) (n p k : ℕ) (cs : List C) (place 
   abbrev O : Outcome N
   O = worked a (column_at a cs n p) (normalised a (columns_at a cs n (p + (n + 1)) k))
 
-  pub normal_fails : (r : Result Verdict SheetFault) (ds : List C) → r ≡ answer_of {N = N} overflow → normalised a (columns_at a cs n (p + (n + 1)) k) ≡ None → Within (p + (n + 1)) (k * (n + 1)) cs ds → Settled a O n p k cs r ds
+  pub normal_fails : (r : Answer) (ds : List C) → r ≡ answer_of {N = N} overflow → normalised a (columns_at a cs n (p + (n + 1)) k) ≡ None → Within (p + (n + 1)) (k * (n + 1)) cs ds → Settled a O n p k cs r ds
   normal_fails r ds er e w =
       let o : O ≡ overflow = ap (worked a (column_at a cs n p)) e in
       settled_kept a n p k place O r cs ds (er ∙ ap answer_of (sym o)) (ap (λ (x : Outcome N). main_after a x n cs) o) (within_wider w (omega arith) (omega arith))
@@ -96,7 +95,7 @@ module _ {N C : Type 0} (a : Arithmetic N C) (n p k : ℕ) (cs : List C) (place 
     wide1 : Within p (work_cells a n k) cs ds
     wide1 = within_wider w1 (omega arith) (omega arith)
 
-    pub rounds_fail : (r : Result Verdict SheetFault) (es : List C) → r ≡ answer_of {N = N} overflow → rounds_at a ds n p k ≡ None → Within p (work_cells a n k) ds es → Settled a O n p k cs r es
+    pub rounds_fail : (r : Answer) (es : List C) → r ≡ answer_of {N = N} overflow → rounds_at a ds n p k ≡ None → Within p (work_cells a n k) ds es → Settled a O n p k cs r es
     rounds_fail r es er e w =
         let o : O ≡ overflow = after_normal ∙ ap (finish a) e in
         settled_kept a n p k place O r cs es (er ∙ ap answer_of (sym o)) (ap (λ (x : Outcome N). main_after a x n cs) o) (within_trans wide1 w)
@@ -111,7 +110,7 @@ module _ {N C : Type 0} (a : Arithmetic N C) (n p k : ℕ) (cs : List C) (place 
       pub length_2 : length es ≡ length cs
       length_2 = wide2.len
 
-      pub finish_fails : (r : Result Verdict SheetFault) (fs : List C) → r ≡ answer_of {N = N} overflow → finish a (Some (l, work_at a es n p k)) ≡ overflow → Within p (work_cells a n k) es fs → Settled a O n p k cs r fs
+      pub finish_fails : (r : Answer) (fs : List C) → r ≡ answer_of {N = N} overflow → finish a (Some (l, work_at a es n p k)) ≡ overflow → Within p (work_cells a n k) es fs → Settled a O n p k cs r fs
       finish_fails r fs er e w =
           let o : O ≡ overflow = after_rounds ∙ e in
           settled_kept a n p k place O r cs fs (er ∙ ap answer_of (sym o)) (ap (λ (x : Outcome N). main_after a x n cs) o) (within_trans wide2 w)
@@ -125,7 +124,7 @@ module _ {N C : Type 0} (a : Arithmetic N C) (n p k : ℕ) (cs : List C) (place 
       -- finish took the equation, and the moves' columns are those before it
       pub finish_takes : (fs gs : List C)
           → finish a (Some (l, work_at a es n p k)) ≡ taken (record { fixed = numbers a (part (p + 1) n fs); moves = map (λ c. c.low) (without (columns_at a es n (p + (n + 1)) k) l) })
-          → Only (p + 1) n es fs → gs ≡ over fs 0 (main_of a n (left_at a fs n p k l)) → Settled a O n p k cs (Ok Taken) gs
+          → Only (p + 1) n es fs → gs ≡ over fs 0 (main_of a n (left_at a fs n p k l)) → Settled a O n p k cs (Ok Done) gs
       finish_takes fs gs e o g =
           let z = a.to_cell a.zero in
           let le = length_2 in
@@ -135,11 +134,11 @@ module _ {N C : Type 0} (a : Arithmetic N C) (n p k : ℕ) (cs : List C) (place 
           let q : O ≡ taken (left_at a fs n p k l) = after_rounds ∙ e ∙ ap taken (sym m) in
           let w : Within p (work_cells a n k) cs fs = within_trans wide2 w3 in
           let lf = w.len in
-          subst (λ (x : Outcome N). Settled a x n p k cs (Ok Taken) gs) (sym q)
+          subst (λ (x : Outcome N). Settled a x n p k cs (Ok Done) gs) (sym q)
           (settled_taken a n p k place (left_at a fs n p k l) cs fs gs w (length_left a n p k l fs place few (omega arith) hl) (omega arith) g)
 
 -- the spare cells wiped at the end
-pub all_cells : {N C : Type 0} (a : Arithmetic N C) (o : Outcome N) (n p k : ℕ) (cs ds es : List C) (r : Result Verdict SheetFault) → p ≡ n * (n + 1) → k ≤ n → p + spare_cells n ≤ length cs → Settled a o n p k cs r ds → es ≡ over ds p (zero_cells a (spare_cells n)) → es ≡ cells_after a o n cs
+pub all_cells : {N C : Type 0} (a : Arithmetic N C) (o : Outcome N) (n p k : ℕ) (cs ds es : List C) (r : Answer) → p ≡ n * (n + 1) → k ≤ n → p + spare_cells n ≤ length cs → Settled a o n p k cs r ds → es ≡ over ds p (zero_cells a (spare_cells n)) → es ≡ cells_after a o n cs
 all_cells {N} {C} a o n p k cs ds es r place few room s e =
     let z = length-replicate (spare_cells n) (a.to_cell a.zero) in
     let m : take p ds ≡ main_after a o n cs = ap (λ (i : ℕ). take i ds) place ∙ s.main in

@@ -1,5 +1,5 @@
 -- The plan of a choice: gathered unknown by unknown, and what it means.
-use Rattle.std.proofs.Common.{◌≡◌, ℕ, zero, suc, ◌+◌, ◌*◌, ◌<◌, ◌≤◌, List, [], ◌∷◌, ◌++◌, map, length, get_or, take, drop, set, ℤ, pos, ◌+ℤ◌, ◌*ℤ◌, Some, None, Option, sym, refl, ap, ◌∙◌, subst, arith}
+use Rattle.std.proofs.Common.{◌≡◌, ℕ, zero, suc, ◌+◌, ◌*◌, ◌<◌, ◌≤◌, ◌↔◌, List, [], ◌∷◌, ◌++◌, map, length, get_or, take, drop, set, ℤ, pos, ◌+ℤ◌, ◌*ℤ◌, Some, None, Option, sym, refl, ap, ◌∙◌, subst, arith}
 use Rattle.std.specs.List.{range_with_len}
 use Rattle.std.proofs.lemmas.List.FromFn.{length-map-range_with_len, get_or-map-range_with_len, map-range_with_len_more}
 use Rattle.std.proofs.lemmas.List.{length-map, length_push, length-set, map-append, take_more_set, get_or-map}
@@ -7,9 +7,11 @@ use Rattle.kinds.specs.Kind.{Arithmetic, Laws, Same}
 use Rattle.kinds.specs.Equation.{dot}
 use Rattle.kinds.specs.Ring.{ring}
 use Rattle.kinds.specs.Sames.{same_eq, same_refl, same_trans, same_add}
+use Rattle.plans.specs.Overflows.{LacksSum}
 use Rattle.plans.specs.Posting.{then, running}
 use Rattle.plans.specs.Sheet.{Contents}
 use Rattle.plans.specs.Solution.{SameLists, ended, also, plus, made, Sized}
+use Rattle.plans.proofs.Lacking.{running_none}
 use Rattle.plans.proofs.SameLists.{lists_refl}
 use Rattle.plans.proofs.Sizes.{Measured}
 use Rattle.plans.proofs.Stored.{meant, running_means, sized_meant}
@@ -39,6 +41,17 @@ module _ {X : Type 0} where
       by : (p : Option X) → collected os ≡ None → then p (λ y. then (collected os) (λ ys. Some (y ∷ ys))) ≡ None
       by None q = refl
       by (Some y) q = ap (λ (s : Option (List X)). then s (λ zs. Some (y ∷ zs))) q
+
+  -- and where all are none, one is
+  none_collected : (os : List (Option X)) → collected os ≡ None → (i : ℕ) × (i < length os) × (get_or os i None ≡ None)
+  none_collected [] e = absurd cc
+  none_collected (o ∷ os) e = by o (collected os) refl e (none_collected os)
+    where
+      by : (p : Option X) (s : Option (List X)) → collected os ≡ s → then p (λ y. then s (λ ys. Some (y ∷ ys))) ≡ None → (collected os ≡ None → (i : ℕ) × (i < length os) × (get_or os i None ≡ None))
+          → (i : ℕ) × (i < length (p ∷ os)) × (get_or (p ∷ os) i None ≡ None)
+      by None s h e rest = (0, omega arith, refl)
+      by (Some y) None h e rest = let r = rest h in (suc r.0, omega (arith, r.1), r.2)
+      by (Some y) (Some ys) h e rest = absurd cc
 
   -- each number of the list
   pub record Gathered (os : List (Option X)) (xs : List X) : Type 0 where
@@ -94,6 +107,17 @@ module _ {N C : Type 0} (a : Arithmetic N C) where
       let e : get_or (meant a v) i (pos 0) ≡ a.means (get_or v i a.zero) = get_or-map a.means v i a.zero (pos 0) (let l = s.0 in omega arith) in
       let r = entries_mean n vs i s.1 h in
       λ j. e j ∷ r j
+
+  -- a plan is none exactly where an add-product of one of its sums gives none
+  pub plan_lacks : (n : ℕ) (s : Contents N) (choice : List N) →
+      (plan_of a n s choice ≡ None) ↔ ((i : ℕ) × (i < n) × LacksSum a (get_or s.fixed i a.zero) (entries a s.moves i) choice)
+  plan_lacks n s choice =
+      let f = picked a s choice in
+      let l = length-map-range_with_len f 0 n in
+      let at : (i : ℕ) → i < n → get_or (map f (range_with_len 0 n)) i None ≡ f i = λ i h. get_or-map-range_with_len f 0 n i i None h (omega arith) in (
+        λ e. let c = none_collected (map f (range_with_len 0 n)) e in let h : c.0 < n = omega (arith, c.1, l) in (c.0, h, (running_none a (get_or s.fixed c.0 a.zero) (entries a s.moves c.0) choice).0 (sym (at c.0 h) ∙ c.2)),
+        λ (i, h, k). collected_none (map f (range_with_len 0 n)) i (omega arith) (at i h ∙ (running_none a (get_or s.fixed i a.zero) (entries a s.moves i) choice).1 k),
+      )
 
   pub plan_long : (n : ℕ) (s : Contents N) (choice xs : List N) → plan_of a n s choice ≡ Some xs → length xs ≡ n
   plan_long n s choice xs e = (gathered (map (picked a s choice) (range_with_len 0 n)) xs e).long ∙ length-map-range_with_len (picked a s choice) 0 n

@@ -1,14 +1,12 @@
 -- The columns that a round changes, and those it leaves.
-use Rattle.std.proofs.Common.{◌≡◌, ℕ, ◌+◌, ◌*◌, ◌<◌, ◌≤◌, ◌≢◌, ◌⊎◌, List, [], length, get_or, set, Some, None, Ok, Err, Option, Result, sym, ap, ◌∙◌, inl, inr, ⊎_elim, arith}
+use Rattle.std.proofs.Common.{◌≡◌, ℕ, ◌+◌, ◌*◌, ◌<◌, ◌≤◌, ◌≢◌, ◌⊎◌, List, length, get_or, set, Some, None, Option, sym, refl, ap, ◌∙◌, inl, inr, ⊎_elim, arith}
 use Rattle.std.proofs.lemmas.List.FromFn.{length-map-range_with_len, get_or-map-range_with_len}
 use Rattle.std.proofs.lemmas.List.{length-set, get_or-set_same, get_or-set_other, ext_get_or}
 use Rattle.std.proofs.lemmas.Bool.{cases_eq, cases_order}
 use Rattle.kinds.specs.Kind.{Arithmetic}
-use Rattle.plans.specs.Posting.{then, Column, at, reduced, round}
-use Rattle.sheets.specs.declared.cells.Overflow.{Overflow}
+use Rattle.plans.specs.Posting.{then, Column, Work, at, adds_column, round}
 use Rattle.sheets.specs.Cells.{part, number, numbers, number_at}
-use Rattle.sheets.specs.Work.{Only, column_at, columns_at, work_at, CameAt, Worked}
-use Rattle.sheets.proofs.Limits.{only_within, within_wider, within_trans}
+use Rattle.sheets.specs.Work.{Only, column_at, columns_at, work_at, factors}
 use Rattle.sheets.proofs.Places.{column_in}
 use Rattle.sheets.proofs.Standing.{part_other}
 use Rattle.sheets.proofs.Walks.{get_or_over}
@@ -63,65 +61,57 @@ module _ {N C : Type 0} (a : Arithmetic N C) (n : ℕ) where
           (λ ne. column_other cs ds (first + l * (n + 1)) (n + 1) (first + j * (n + 1)) o (in_room l h) (in_room j jk) (columns_apart j l ne) ∙ sym (get_or-set_other T l j c d ne ∙ column_of cs j d jk))
           (cases_eq j l))
 
--- one round, as the columns have it
-module _ {N C : Type 0} (a : Arithmetic N C) (n p k l r : ℕ) (cs : List C) (room : p + ((n + 1) + k * (n + 1)) ≤ length cs) (hl : l < k) (hr : r < k) (ne : l ≢ r) where
-  abbrev first : ℕ
-  first = p + (n + 1)
+-- once the quotients of a round came, it adds twice
+module _ {N C : Type 0} (a : Arithmetic N C) (w : Work N) (l r : ℕ) where
+  abbrev B_by : N → Option (Column N)
+  B_by x = adds_column a w.B x (at a w.columns l)
 
-  abbrev at_l : ℕ
-  at_l = first + l * (n + 1)
+  abbrev pivot_by : N → Option (Column N)
+  pivot_by y = adds_column a (at a w.columns l) y (at a w.columns r)
 
-  abbrev at_r : ℕ
-  at_r = first + r * (n + 1)
+  abbrev both : Option (Column N) → Option (Column N) → Option (Work N)
+  both o u = then o (λ b. then u (λ d. Some (record { B = b; columns = set w.columns l d })))
 
-  abbrev blank_at : Column N
-  blank_at = record { top = a.zero; low = [] }
+  abbrev quotients : Option (N × N)
+  quotients = factors a w.B.top (at a w.columns l).top (at a w.columns r).top
 
-  room_first : first + k * (n + 1) ≤ length cs
-  room_first = omega arith
+  second_none : (o : Option (Column N)) → both o None ≡ None
+  second_none None = refl
+  second_none (Some b) = refl
 
-  abbrev T : List (Column N)
-  T = columns_at a cs n first k
+  pub round_by : (x y : N) → quotients ≡ Some (x, y) → round a w l r ≡ both (B_by x) (pivot_by y)
+  round_by x y e = by (a.quotient w.B.top (at a w.columns l).top) (a.quotient (at a w.columns l).top (at a w.columns r).top) e
+    where
+      by : (o u : Option N) → then {Y = N × N} o (λ q. then {Y = N × N} u (λ s. Some (a.negative q, a.negative s))) ≡ Some (x, y) → both (then o (λ q. B_by (a.negative q))) (then u (λ q. pivot_by (a.negative q))) ≡ both (B_by x) (pivot_by y)
+      by None u e = absurd cc
+      by (Some q) None e = absurd cc
+      by (Some q) (Some s) e =
+          let z : ◌≡◌ {A = N × N} (a.negative q, a.negative s) (x, y) = cc in
+          λ j. both (B_by (z j).0) (pivot_by (z j).1)
 
-  pub round_first_none : reduced a (column_at a cs n p) (column_at a cs n at_l) ≡ None → round a (work_at a cs n p k) l r ≡ None
-  round_first_none e =
-      ap (λ (o : Option (Column N)). then o (λ b. then (reduced a (at a T l) (at a T r)) (λ d. Some (record { B = b; columns = set T l d }))))
-      (ap (reduced a (column_at a cs n p)) (column_of a n first k cs l blank_at hl) ∙ e)
+  pub round_none : quotients ≡ None → round a w l r ≡ None
+  round_none e = by (a.quotient w.B.top (at a w.columns l).top) (a.quotient (at a w.columns l).top (at a w.columns r).top) e
+    where
+      by : (o u : Option N) → then {Y = N × N} o (λ q. then {Y = N × N} u (λ s. Some (a.negative q, a.negative s))) ≡ None → both (then o (λ q. B_by (a.negative q))) (then u (λ q. pivot_by (a.negative q))) ≡ None
+      by None u e = refl
+      by (Some q) None e = second_none (B_by (a.negative q))
+      by (Some q) (Some s) e = absurd cc
 
-  module _ (ds : List C) (o1 : reduced a (column_at a cs n p) (column_at a cs n at_l) ≡ Some (column_at a ds n p)) (only1 : Only p (n + 1) cs ds) where
-    length_ds : length ds ≡ length cs
-    length_ds = (only_within (a.to_cell a.zero) p (n + 1) p (n + 1) cs ds only1 (omega arith) (omega arith) (omega arith)).len
+  module _ (x y : N) (e : quotients ≡ Some (x, y)) where
+    pub round_first_none : B_by x ≡ None → round a w l r ≡ None
+    round_first_none h = round_by x y e ∙ ap (λ (o : Option (Column N)). both o (pivot_by y)) h
 
-    same_l : column_at a ds n at_l ≡ column_at a cs n at_l
-    same_l = let x = column_in l k (n + 1) hl in column_other a n cs ds p (n + 1) at_l only1 (omega arith) (omega arith) (inr (omega arith))
+    pub round_second_none : pivot_by y ≡ None → round a w l r ≡ None
+    round_second_none h = round_by x y e ∙ ap (both (B_by x)) h ∙ second_none (B_by x)
 
-    same_r : column_at a ds n at_r ≡ column_at a cs n at_r
-    same_r = let x = column_in r k (n + 1) hr in column_other a n cs ds p (n + 1) at_r only1 (omega arith) (omega arith) (inr (omega arith))
+    pub round_came : (b d : Column N) → B_by x ≡ Some b → pivot_by y ≡ Some d → round a w l r ≡ Some (record { B = b; columns = set w.columns l d })
+    round_came b d h k = round_by x y e ∙ (λ j. both (h j) (k j))
 
-    -- after the first reduction
-    half : round a (work_at a cs n p k) l r ≡ then (reduced a (column_at a ds n at_l) (column_at a ds n at_r)) (λ d. Some (record { B = column_at a ds n p; columns = set T l d }))
-    half =
-        ap (λ (o : Option (Column N)). then o (λ b. then (reduced a (at a T l) (at a T r)) (λ d. Some (record { B = b; columns = set T l d }))))
-        (ap (reduced a (column_at a cs n p)) (column_of a n first k cs l blank_at hl) ∙ o1)
-        ∙ (let x = column_of a n first k cs l blank_at hl ∙ sym same_l in let y = column_of a n first k cs r blank_at hr ∙ sym same_r in
-        λ j. then (reduced a (x j) (y j)) (λ d. Some (record { B = column_at a ds n p; columns = set T l d })))
-
-    pub round_came : (res : Result Unit Overflow) (es : List C) → CameAt a (reduced a (column_at a ds n at_l) (column_at a ds n at_r)) n at_l ds res es → Worked a (round a (work_at a cs n p k) l r) n p k cs res es
-    round_came (Err _) es (e, w2) =
-        let z = a.to_cell a.zero in
-        let le = length_ds in
-        let x = column_in l k (n + 1) hl in (
-          half ∙ ap (λ (o : Option (Column N)). then o (λ d. Some (record { B = column_at a ds n p; columns = set T l d }))) e,
-          within_trans (only_within z p (n + 1) p ((n + 1) + k * (n + 1)) cs ds only1 (omega arith) (omega arith) (omega arith)) (within_wider w2 (omega arith) (omega arith)),
-        )
-    round_came (Ok _) es (o2, only2) =
-        let z = a.to_cell a.zero in
-        let le = length_ds in
-        let x = column_in l k (n + 1) hl in
-        let b : column_at a es n p ≡ column_at a ds n p = column_other a n ds es at_l (n + 1) p only2 (omega arith) (omega arith) (inl (omega arith)) in
-        let t : columns_at a es n first k ≡ set T l (column_at a es n at_l)
-        = columns_set a n first k ds es (omega arith) l hl only2 ∙ ap (λ (u : List (Column N)). set u l (column_at a es n at_l)) (columns_kept a n first k cs ds room_first p (n + 1) only1 (omega arith) (inr (omega arith))) in
-        let w : record { B = column_at a ds n p; columns = set T l (column_at a es n at_l) } ≡ work_at a es n p k = sym (λ j. record { B = b j; columns = t j }) in (
-          half ∙ ap (λ (o : Option (Column N)). then o (λ d. Some (record { B = column_at a ds n p; columns = set T l d }))) o2 ∙ ap Some w,
-          within_trans (only_within z p (n + 1) p ((n + 1) + k * (n + 1)) cs ds only1 (omega arith) (omega arith) (omega arith)) (only_within z at_l (n + 1) p ((n + 1) + k * (n + 1)) ds es only2 (omega arith) (omega arith) (omega arith)),
-        )
+-- with no quotients there is no round
+pub no_round : {N C : Type 0} (a : Arithmetic N C) (n start k l r : ℕ) (cs : List C) → l < k → r < k
+    → factors a (number_at a cs start) (number_at a cs (start + (n + 1) + l * (n + 1))) (number_at a cs (start + (n + 1) + r * (n + 1))) ≡ None
+    → round a (work_at a cs n start k) l r ≡ None
+no_round a n start k l r cs hl hr e =
+    let p = column_of a n (start + (n + 1)) k cs l _ hl in
+    let q = column_of a n (start + (n + 1)) k cs r _ hr in
+    round_none a (work_at a cs n start k) l r ((λ j. factors a (number_at a cs start) (p j).top (q j).top) ∙ e)

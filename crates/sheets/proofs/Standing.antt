@@ -56,7 +56,7 @@ module _ {N C : Type 0} (a : Arithmetic N C) where
       by (Some t) None e = absurd cc
       by (Some t) (Some l) e = let z : t ∷ l ≡ ys = cc in (record { top = t; low = l }, (refl, sym z))
 
-  adds_nothing : (c d : Column N) (q : N) → adds a (listed c) q (listed d) ≡ None → adds_column a c q d ≡ None
+  pub adds_nothing : (c d : Column N) (q : N) → adds a (listed c) q (listed d) ≡ None → adds_column a c q d ≡ None
   adds_nothing c d q e = by (a.add_product c.top q d.top) (adds a c.low q d.low) e
     where
       by : (o : Option N) (s : Option (List N)) → then o (λ r. then s (λ rs. Some (r ∷ rs))) ≡ None → then {Y = Column N} o (λ t. then {Y = Column N} s (λ l. Some (record { top = t; low = l }))) ≡ None

@@ -1,12 +1,11 @@
 -- Turns of the rounds, on the columns in cells.
-use Rattle.std.proofs.Common.{◌≡◌, ℕ, zero, suc, ◌+◌, ◌<◌, true, false, cond, eqb, ltb, ◌≢◌, List, length, Some, None, Ok, Option, sym, refl, ap, ◌∙◌, arith}
-use Rattle.std.proofs.lemmas.Bool.{cond-true, cond-false}
+use Rattle.std.proofs.Common.{◌≡◌, ℕ, zero, suc, ◌+◌, ◌<◌, Bool, true, false, cond, eqb, ltb, ◌≢◌, List, length, Some, None, Ok, Err, Option, sym, refl, ap, ◌∙◌, arith}
 use Rattle.kinds.specs.Kind.{Arithmetic, Laws}
-use Rattle.plans.specs.Posting.{Column, Work, stop, again, larger, largest_of, size_at, pivot_of, runner_up_of, round, turned, turn_by, turn_at, turn, on, rounds, total_size}
+use Rattle.plans.specs.Posting.{Column, Work, Turn, stop, again, fail, larger, largest_of, size_at, pivot_of, runner_up_of, round, turned, turn_by, turn_at, turn, on, rounds, total_size}
 use Rattle.plans.proofs.Bests.{best_some}
 use Rattle.plans.proofs.Falling.{enough, turn_falls}
 use Rattle.sheets.specs.Cells.{top_size}
-use Rattle.sheets.specs.Work.{columns_at, work_at, work_cells, rounds_at, Ended}
+use Rattle.sheets.specs.Work.{columns_at, work_at, work_cells, rounds_at, Ended, unless_zero}
 use Rattle.sheets.specs.Combining.{Within}
 use Rattle.sheets.proofs.Limits.{within_trans}
 use Rattle.sheets.proofs.NextPivot.{next_pivot}
@@ -49,27 +48,48 @@ module _ {N C : Type 0} (a : Arithmetic N C) (n p k : ℕ) (cs : List C) where
     turn_l : turn a W ≡ turn_by a W l (largest_of (top_size a cs (p + (n + 1)) n) l k)
     turn_l = ap (turn_at a W) el ∙ ap (turn_by a W l) (runners l)
 
-    pub turn_alone : largest_of (top_size a cs (p + (n + 1)) n) l k ≡ None → turn a W ≡ stop l
-    turn_alone e = turn_l ∙ ap (turn_by a W l) e
+    abbrev size : ℕ → ℕ
+    size = top_size a cs (p + (n + 1)) n
 
-    module _ (r : ℕ) (er : largest_of (top_size a cs (p + (n + 1)) n) l k ≡ Some r) where
-      below_r : r < k
-      below_r = (best_some (top_size a cs (p + (n + 1)) n) l k r er).0
+    -- the runner-up, unless its top has size 0
+    abbrev left : Option ℕ
+    left = unless_zero size (largest_of size l k)
 
-      turn_r : turn a W ≡ cond (eqb (top_size a cs (p + (n + 1)) n r) 0) (stop l) (turned a (round a W l r))
-      turn_r = turn_l ∙ ap (turn_by a W l) er ∙ ap (λ (s : ℕ). cond (eqb s 0) (stop l) (turned a (round a W l r))) (sizes r below_r)
+    abbrev turn_on : Option ℕ → Turn N
+    turn_on None = stop l
+    turn_on (Some r) = turned a (round a W l r)
 
-      pub turn_zero : eqb (top_size a cs (p + (n + 1)) n r) 0 ≡ true → turn a W ≡ stop l
-      turn_zero e = turn_r ∙ cond-true (eqb (top_size a cs (p + (n + 1)) n r) 0) (stop l) (turned a (round a W l r)) e
+    by_left : (o : Option ℕ) → largest_of size l k ≡ o → turn_by a W l o ≡ turn_on (unless_zero size o)
+    by_left None e = refl
+    by_left (Some r) e = ap (λ (s : ℕ). cond (eqb s 0) (stop l) (turned a (round a W l r))) (sizes r (best_some size l k r e).0) ∙ by (eqb (size r) 0)
+      where
+        by : (b : Bool) → cond b (stop l) (turned a (round a W l r)) ≡ turn_on (cond b None (Some r))
+        by true = refl
+        by false = refl
 
-      pub turn_round : eqb (top_size a cs (p + (n + 1)) n r) 0 ≡ false → turn a W ≡ turned a (round a W l r)
-      turn_round e = turn_r ∙ cond-false (eqb (top_size a cs (p + (n + 1)) n r) 0) (stop l) (turned a (round a W l r)) e
+    pub turn_stop : left ≡ None → turn a W ≡ stop l
+    turn_stop e = turn_l ∙ by_left (largest_of size l k) refl ∙ ap turn_on e
+
+    module _ (r : ℕ) (er : left ≡ Some r) where
+      pub turn_round : turn a W ≡ turned a (round a W l r)
+      turn_round = turn_l ∙ by_left (largest_of size l k) refl ∙ ap turn_on er
+
+      is_largest : largest_of size l k ≡ Some r
+      is_largest = by (largest_of size l k) er
+        where
+          by_size : (b : Bool) (j : ℕ) → ◌≡◌ {A = Option ℕ} (cond b None (Some j)) (Some r) → ◌≡◌ {A = Option ℕ} (Some j) (Some r)
+          by_size true j e = absurd cc
+          by_size false j e = e
+
+          by : (o : Option ℕ) → unless_zero size o ≡ Some r → o ≡ Some r
+          by None e = e
+          by (Some j) e = by_size (eqb (size j) 0) j e
 
       pub pivot_not_runner : l ≢ r
-      pivot_not_runner e = (best_some (top_size a cs (p + (n + 1)) n) l k r er).1 (sym e)
+      pivot_not_runner e = (best_some size l k r is_largest).1 (sym e)
 
       pub next : (laws : Laws a) (ds : List C) → turn a W ≡ again (work_at a ds n p k) → pivot_of a (columns_at a ds n (p + (n + 1)) k) ≡ Some r
-      next laws ds e = next_pivot a laws W (work_at a ds n p k) l r el (runners l ∙ er) e
+      next laws ds e = next_pivot a laws W (work_at a ds n p k) l r el (runners l ∙ is_largest) e
 
 -- the rounds so far: what is left of them comes to the same
 pub record SoFar {N C : Type 0} (a : Arithmetic N C) (n p k : ℕ) (start now : List C) : Type 0 where
@@ -93,6 +113,9 @@ module _ {N C : Type 0} (a : Arithmetic N C) (laws : Laws a) (n p k : ℕ) where
   -- with no column there is no turn
   pub so_far_none : (start : List C) → pivot_of a (columns_at a start n (p + (n + 1)) k) ≡ None → rounds_at a start n p k ≡ None
   so_far_none start e = let w = work_at a start n p k in ap (λ (o : Option ℕ). on a (rounds a (total_size a w.columns)) w (turn_at a w o)) e
+
+  pub so_far_fail : (start cs ds : List C) → SoFar a n p k start cs → turn a (work_at a cs n p k) ≡ fail → Within p (work_cells a n k) cs ds → Ended a n p k start (Err (record {})) ds
+  so_far_fail start cs ds f e w = (sym f.same ∙ ap (on a (rounds a (total_size a (columns_at a cs n (p + (n + 1)) k))) (work_at a cs n p k)) e, within_trans f.inside w)
 
   pub so_far_stop : (start cs : List C) (l : ℕ) → SoFar a n p k start cs → l < k → turn a (work_at a cs n p k) ≡ stop l → Ended a n p k start (Ok l) cs
   so_far_stop start cs l f h e = (sym f.same ∙ ap (on a (rounds a (total_size a (columns_at a cs n (p + (n + 1)) k))) (work_at a cs n p k)) e, h, f.inside)

@@ -1,5 +1,6 @@
 -- The cells of a sheet: what they hold, and where. Assumes nothing.
-use Rattle.std.specs.Prelude.{ℕ, ◌+◌, ◌-◌, ◌*◌, List, ◌++◌, map, length, take, drop, replicate, Some, None, Option, slice_index_or}
+use Rattle.std.specs.Prelude.{◌≡◌, ℕ, ◌≤◌, ◌+◌, ◌-◌, ◌*◌, List, ◌++◌, map, length, take, drop, replicate, slice_index_or}
+use Rattle.std.specs.Prelude.{Some, None, Option}
 use Rattle.std.specs.List.{range_with_len, flat_map}
 use Rattle.kinds.specs.Kind.{Arithmetic}
 use Rattle.plans.specs.Sheet.{Contents}
@@ -13,6 +14,10 @@ spare_cells n = (n + 1) * (n + 1)
 
 abbrev pub needed : ℕ → ℕ
 needed n = main_cells n + spare_cells n
+
+-- a sheet of n unknowns, if it has any, has the cells that it needs
+abbrev pub HasCells : {C : Type 0} → ℕ → List C → Type 0
+HasCells n cells = ¬ (n ≡ 0) → needed n ≤ length cells
 
 -- n elements from place `from` on
 abbrev pub part : {X : Type 0} → ℕ → ℕ → List X → List X

@@ -14,7 +14,12 @@ clear_answer m = cond (stands m) (Ok tt) (Err NoSheet)
 module _ {N C : Type 0} (a : Arithmetic N C) where
   -- the new sheet again, in the same cells and of the same list of unknowns
   abbrev pub new_again : Model C → Model C
-  new_again m = record { cells = sheet_cells a m.unknowns (new_sheet a m.unknowns) m.cells; unknowns = m.unknowns; moves = m.unknowns; list = m.list }
+  new_again m = record {
+    cells = sheet_cells a m.unknowns (new_sheet a m.unknowns) m.cells;
+    unknowns = m.unknowns;
+    moves = m.unknowns;
+    list = m.list;
+  }
 
   -- the sheet afterwards
   abbrev pub clear_left : Model C → Model C

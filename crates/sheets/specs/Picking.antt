@@ -1,15 +1,13 @@
 -- The plan of a choice: what a picking answers, and the words that it leaves. Assumes nothing.
-use Rattle.std.specs.Prelude.{◌≡◌, ℕ, cond, List, [], ◌∷◌, map, length, get_or, take, ℤ, Some, None, Ok, Err, Option, Result, ◌==◌, slice_index_or}
+use Rattle.std.specs.Prelude.{◌≡◌, ℕ, ◌&&◌, List, [], ◌∷◌, map, length, get_or, take, ℤ, Some, None, Ok, Err, Option, Result, ◌==◌, slice_index_or}
 use Rattle.std.specs.List.{range_with_len}
 use Rattle.faults.specs.declared.SheetFault.{SheetFault}
-use Rattle.faults.specs.declared.SheetFault.TheVariants.{NoSheet, Count, Overflow}
+use Rattle.faults.specs.declared.SheetFault.TheVariants.{Overflow}
 use Rattle.kinds.specs.Kind.{Arithmetic}
-use Rattle.lines.specs.Hex.{find}
 use Rattle.plans.specs.Posting.{then, running}
 use Rattle.plans.specs.Sheet.{Contents}
-use Rattle.sheets.specs.Cells.{contents_in}
-use Rattle.sheets.specs.Sheet.{Model, stands, word_fault}
-use Rattle.sheets.specs.Words.{numbers_of, is_refused}
+use Rattle.sheets.specs.Sheet.{Model, contents_of, words_refusal}
+use Rattle.sheets.specs.Words.{numbers_of}
 
 -- all that came, if each did
 abbrev pub collected : {X : Type 0} → List (Option X) → Option (List X)
@@ -31,14 +29,11 @@ module _ {N C : Type 0} (a : Arithmetic N C) where
 
   -- why no plan can be picked, before any sum is made: `len` words are lent for it
   abbrev pub pick_refusal : Model C → List ℤ → ℕ → Option SheetFault
-  pick_refusal m choice len =
-      cond (stands m)
-      (cond (length choice == m.moves) (cond (len == m.unknowns) (word_fault (find (is_refused a) choice)) (Some Count)) (Some Count))
-      (Some NoSheet)
+  pick_refusal m choice len = words_refusal a m ((length choice == m.moves) && (len == m.unknowns)) choice
 
   -- the plan that a choice picks from a sheet
   abbrev pub plan_in : Model C → List ℤ → Option (List N)
-  plan_in m choice = plan_of m.unknowns (contents_in a m.unknowns m.moves m.cells) (numbers_of a choice)
+  plan_in m choice = plan_of m.unknowns (contents_of a m) (numbers_of a choice)
 
   abbrev pub pick_unless : Option SheetFault → Option (List N) → Result Unit SheetFault
   pick_unless (Some fault) plan = Err fault

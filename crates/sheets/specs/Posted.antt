@@ -1,19 +1,18 @@
 -- What a posting answers, and what it leaves in the cells. Assumes nothing.
 use Rattle.std.specs.Prelude.{◌≡◌, ℕ, ◌+◌, ◌⊎◌, List, ◌++◌, length, take, drop, Some, None, Ok, Err, Result}
-use Rattle.faults.specs.declared.SheetFault.{SheetFault}
 use Rattle.faults.specs.declared.SheetFault.TheVariants.{Overflow as Overflowed, Contradicted}
 use Rattle.kinds.specs.Kind.{Arithmetic}
 use Rattle.plans.specs.Posting.{Outcome, taken, implied, contradicted, overflow, topped, column_B}
 use Rattle.sheets.specs.declared.cells.Overflow.{Overflow}
-use Rattle.sheets.specs.declared.posting.Verdict.{Verdict}
-use Rattle.sheets.specs.declared.posting.Verdict.TheVariants.{Taken, Implied}
+use Rattle.sheets.specs.declared.call.Success.TheVariants.{Done, Implied}
+use Rattle.sheets.specs.Answers.{Answer}
 use Rattle.sheets.specs.Cells.{main_cells, spare_cells, needed, numbers, zero_cells, main_of, moves_at}
 use Rattle.sheets.specs.Combining.{Within}
 use Rattle.sheets.specs.Work.{column_at, columns_at, work_cells}
 
 -- the answer of an outcome
-abbrev pub answer_of : {N : Type 0} → Outcome N → Result Verdict SheetFault
-answer_of (taken s) = Ok Taken
+abbrev pub answer_of : {N : Type 0} → Outcome N → Answer
+answer_of (taken s) = Ok Done
 answer_of implied = Ok Implied
 answer_of contradicted = Err Contradicted
 answer_of overflow = Err Overflowed
@@ -37,10 +36,11 @@ module _ {N C : Type 0} (a : Arithmetic N C) where
       × (column_B a cs right (numbers a (take n before)) ≡ Some (column_at a after n p))
       × Within p (work_cells a n k) before after
   Prepared cs right n p k before (Err _) after =
-      ((topped a cs (moves_at a before n k) ≡ None) ⊎ (column_B a cs right (numbers a (take n before)) ≡ None)) × Within p (work_cells a n k) before after
+      ((topped a cs (moves_at a before n k) ≡ None) ⊎ (column_B a cs right (numbers a (take n before)) ≡ None))
+      × Within p (work_cells a n k) before after
 
   -- an outcome answered, with the main cells as it leaves them; the cells from p on are left as they may be
-  pub record Settled (o : Outcome N) (n p k : ℕ) (before : List C) (r : Result Verdict SheetFault) (after : List C) : Type 0 where
+  pub record Settled (o : Outcome N) (n p k : ℕ) (before : List C) (r : Answer) (after : List C) : Type 0 where
     pub answer : r ≡ answer_of o
     pub len : length after ≡ length before
     pub main : take (main_cells n) after ≡ main_after o n before

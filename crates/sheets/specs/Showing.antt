@@ -1,19 +1,30 @@
 -- What a sheet shows: a line for its fixed plan, and one for each move. Assumes nothing.
-use Rattle.std.specs.Prelude.{ℕ, ◌+◌, ◌*◌, cond, List, [], ◌∷◌, ◌++◌, map, length, Some, None, Option, Result, nat_lt}
+use Rattle.std.specs.Prelude.{ℕ, ◌+◌, ◌*◌, cond, List, ◌++◌, map, length, Some, None, Option, Result, nat_lt}
 use Rattle.std.specs.List.{flat_map}
+use Rattle.faults.specs.Refusing.{done_unless, left_unless}
 use Rattle.faults.specs.declared.PageFault.TheVariants.{LineBegun, NoRoom}
 use Rattle.faults.specs.declared.SheetFault.{SheetFault}
 use Rattle.faults.specs.declared.SheetFault.TheVariants.{Page, NoSheet}
 use Rattle.kinds.specs.Kind.{Arithmetic}
-use Rattle.lines.specs.Line.{line_text}
+use Rattle.lines.specs.Line.{written_length, written_text}
 use Rattle.lines.specs.Page.{Model as PageModel, with_text}
 use Rattle.plans.specs.Sheet.{Contents}
-use Rattle.sheets.specs.Cells.{contents_in}
-use Rattle.sheets.specs.Sheet.{Model, stands, done_unless}
+use Rattle.sheets.specs.Sheet.{Model, contents_of, stands}
 
--- how many bytes the lines of a showing have: 5 + 8 × n each, with the line feed
+-- the frames of a fixed plan and of a move: 83 and 84
+abbrev pub fixed_plan_frame : ℕ
+fixed_plan_frame = 131
+
+abbrev pub move_frame : ℕ
+move_frame = 132
+
+-- how many bytes the lines of a fixed plan and of k moves have, in n unknowns
+abbrev pub rows_length : ℕ → ℕ → ℕ
+rows_length k n = (k + 1) * written_length n
+
+-- how many the lines of a showing have
 abbrev pub show_length : {C : Type 0} → Model C → ℕ
-show_length m = (m.moves + 1) * (5 + 8 * m.unknowns)
+show_length m = rows_length m.moves m.unknowns
 
 -- why a sheet cannot be shown on a page
 abbrev pub show_refusal : {C : Type 0} → Model C → PageModel → Option SheetFault
@@ -28,16 +39,12 @@ show_answer m p = done_unless (show_refusal m p)
 module _ {N C : Type 0} (a : Arithmetic N C) where
   -- numbers as one line, with its line feed
   abbrev pub row_text : ℕ → List N → List ℕ
-  row_text frame row = line_text frame (map a.write row) ++ 10 ∷ []
+  row_text frame row = written_text frame (map a.write row)
 
-  -- the fixed plan under frame 83, and then the moves in order under frame 84
+  -- the fixed plan, and then the moves in order
   abbrev pub shown_text : Contents N → List ℕ
-  shown_text s = row_text 131 s.fixed ++ flat_map (row_text 132) s.moves
-
-  abbrev pub page_unless : Option SheetFault → Model C → PageModel → PageModel
-  page_unless (Some fault) m p = p
-  page_unless None m p = with_text p (shown_text (contents_in a m.unknowns m.moves m.cells))
+  shown_text s = row_text fixed_plan_frame s.fixed ++ flat_map (row_text move_frame) s.moves
 
   -- the page afterwards
   abbrev pub show_left : Model C → PageModel → PageModel
-  show_left m p = page_unless (show_refusal m p) m p
+  show_left m p = left_unless (show_refusal m p) p (with_text p (shown_text (contents_of a m)))

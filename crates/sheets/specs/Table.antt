@@ -1,13 +1,13 @@
 -- The table of a sheet as the steps of a posting see it. Assumes nothing.
-use Rattle.std.specs.Prelude.{ℕ, ◌+◌, ◌*◌, List, take, ℤ, pos, Some, None, Option, slice_index_or}
+use Rattle.std.specs.Prelude.{ℕ, ◌+◌, ◌*◌, List, ℤ, Some, None, Option}
 use Rattle.kinds.specs.Kind.{Arithmetic}
 use Rattle.kinds.specs.declared.kind.Kind.{Ghosts}
-use Rattle.plans.specs.Posting.{Column, Work, Outcome, posted}
+use Rattle.plans.specs.Posting.{Column, Work, Outcome}
 use Rattle.plans.specs.Sheet.{Contents}
 use Rattle.sheets.specs.declared.shape.Shape.{Shape}
 use Rattle.sheets.specs.declared.table.Table.{Table}
 use Rattle.sheets.specs.Cells.{main_cells, number_at, top_size, contents_in}
-use Rattle.sheets.specs.Words.{number_of, numbers_of}
+use Rattle.sheets.specs.Sheet.{outcome_from}
 use Rattle.sheets.specs.Work.{column_at, columns_at, work_at, left_at}
 
 -- the place to leave out among k, and k itself for none
@@ -15,10 +15,9 @@ abbrev pub skipped : Option ℕ → ℕ → ℕ
 skipped (Some j) k = j
 skipped None k = k
 
--- what posting the coefficients and, behind them, the right side comes to, on the sheet of a shape in these cells
+-- what posting words to the sheet of a shape in these cells comes to
 abbrev pub outcome_in : {N C : Type 0} → Arithmetic N C → Shape → List C → List ℤ → Outcome N
-outcome_in a s cells ws =
-    posted a (contents_in a s.unknowns s.moves cells) (numbers_of a (take s.unknowns ws)) (number_of a (slice_index_or ws s.unknowns (pos 0)))
+outcome_in a s cells ws = outcome_from a s.unknowns (contents_in a s.unknowns s.moves cells) ws
 
 module _ {N C : Type 0} {K : Ghosts N C} where
   -- where the moves' columns begin, behind column B
@@ -27,8 +26,11 @@ module _ {N C : Type 0} {K : Ghosts N C} where
 
   -- a step on a table of n unknowns and k moves, with its columns from cell p on: the cells before, what came, and the
   -- cells after
-  abbrev pub Step : {R : Type 0} → (ℕ → ℕ → ℕ → List C → R → List C → Type 0) → Table N C K → R → Table N C K → Type 0
-  Step step before result after = step before.shape.unknowns (main_cells before.shape.unknowns) before.shape.moves before.cells.now result after.cells.now
+  abbrev pub Step : {R : Type 0} → (ℕ → ℕ → ℕ → List C → R → List C → Type 0)
+      → Table N C K → R → Table N C K → Type 0
+  Step step before result after =
+      let s = before.shape in
+      step s.unknowns (main_cells s.unknowns) s.moves before.cells.now result after.cells.now
 
   abbrev pub B_of : Table N C K → Column N
   B_of t = column_at K.arith t.cells.now t.shape.unknowns (main_cells t.shape.unknowns)

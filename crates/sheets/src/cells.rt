@@ -2,10 +2,11 @@
 // Places are kept to their bounds by `requires`: the type of a number cannot name the slice that it counts in.
 ghost use Rattle.std.specs.Prelude.{◌≡◌, ◌+◌, ◌*◌, ◌<◌, ◌≤◌, ◌⊎◌, length, map, slice_set};
 ghost use Rattle.plans.specs.Posting.{adds};
-ghost use Rattle.sheets.specs.Combining.{Combined};
+ghost use Rattle.sheets.specs.Combining.{Put, Combined};
 ghost use Rattle.sheets.specs.Cells.{needed, part, number as number_of_cell, number_at, numbers, held, zero_cells};
 ghost use Rattle.lines.specs.Page.{over};
 
+use crate::shape::MOST_UNKNOWNS;
 use kinds::kind::Kind;
 
 // A step gave a number that cannot be stored.
@@ -14,7 +15,7 @@ pub(crate) struct Overflow;
 
 // How many cells a sheet of n unknowns needs.
 pub(crate) fn needed_cells(n: usize) -> usize
-    requires { n ≤ 24 }
+    requires { n ≤ MOST_UNKNOWNS }
     ensures { result ≡ needed n }
 {
     n * (n + 1) + (n + 1) * (n + 1)
@@ -43,9 +44,24 @@ pub(crate) fn write<K: Kind>(cells: &mut [K::Cell], i: usize, x: K)
     cells[i] = x.to_cell();
 }
 
+// Adds q × the number in cell `from` to the one in cell `to`.
+pub(crate) fn add_number<K: Kind>(cells: &mut [K::Cell], to: usize, from: usize, q: K) -> Option<()>
+    requires to { to < length cells.old }
+    requires from { from < length cells.old }
+    ensures { let c = number_at K.Kind.arith cells.old to in
+        let d = number_at K.Kind.arith cells.old from in
+        Put K.Kind.arith (K.Kind.arith.add_product c q d) to cells.old result cells.new }
+{
+    let c = read::<K>(cells, to);
+    let d = read::<K>(cells, from);
+    let x = c.add_product(q, d)?;
+    write(cells, to, x);
+    Some(())
+}
+
 // Adds q × the numbers from `from` on to those from `to` on, from the top down.
 // Kept by index: both columns lie in one slice, either before the other; splitting it makes two cases of every step.
-// Out of line: written into a posting, its loop is short of registers, and a posting takes a tenth longer.
+// Out of line: written into a posting, it leaves the walk of a round short of registers, and a posting takes longer.
 #[inline(never)]
 pub(crate) fn combine<K: Kind>(
     cells: &mut [K::Cell],
@@ -57,13 +73,13 @@ pub(crate) fn combine<K: Kind>(
     requires to { to + height ≤ length cells.old }
     requires from { from + height ≤ length cells.old }
     requires apart { (to ≤ from) ⊎ (from + height ≤ to) }
-    ensures { Combined K.Kind.arith (adds K.Kind.arith (numbers K.Kind.arith (part to height cells.old)) q (numbers K.Kind.arith (part from height cells.old))) height cells.old to result cells.new }
+    ensures { let a = K.Kind.arith in
+        let u = numbers a (part to height cells.old) in
+        let v = numbers a (part from height cells.old) in
+        Combined a (adds a u q v) height cells.old to result cells.new }
 {
     for i in 0..height {
-        let c = read::<K>(cells, to + i);
-        let d = read::<K>(cells, from + i);
-        let x = c.add_product(q, d).ok_or(Overflow)?;
-        write(cells, to + i, x);
+        add_number(cells, to + i, from + i, q).ok_or(Overflow)?;
     }
     Ok(())
 }
@@ -76,7 +92,9 @@ pub(crate) fn scale<K: Kind>(
     u: K,
 ) -> Result<(), Overflow>
     requires { at + height ≤ length cells.old }
-    ensures { Combined K.Kind.arith (adds K.Kind.arith (map (λ _. K.Kind.arith.zero) (numbers K.Kind.arith (part at height cells.old))) u (numbers K.Kind.arith (part at height cells.old))) height cells.old at result cells.new }
+    ensures { let a = K.Kind.arith in
+        let v = numbers a (part at height cells.old) in
+        Combined a (adds a (map (λ _. a.zero) v) u v) height cells.old at result cells.new }
 {
     for i in 0..height {
         let x = K::zero()
@@ -93,7 +111,8 @@ pub(crate) fn copy<K: Kind>(cells: &mut [K::Cell], to: usize, from: usize, n: us
     requires to { to + n ≤ length cells.old }
     requires from { from + n ≤ length cells.old }
     requires apart { (to ≤ from) ⊎ (from + n ≤ to) }
-    ensures { cells.new ≡ over cells.old to (held K.Kind.arith (numbers K.Kind.arith (part from n cells.old))) }
+    ensures { let a = K.Kind.arith in
+        cells.new ≡ over cells.old to (held a (numbers a (part from n cells.old))) }
 {
     for i in 0..n {
         let x = read::<K>(cells, from + i);

@@ -1,31 +1,15 @@
 // The columns of a posting: each has its top in one cell, and its n entries in those behind.
 // Functions of one column take the cells and no table, whose invariant they do not need; moves are told by number,
 // since a step reads one part of the cells and writes another.
-ghost use Rattle.std.specs.Prelude.{◌≡◌, ◌+◌, ◌≤◌, ◌⊎◌, length};
-ghost use Rattle.plans.specs.Posting.{adds_column, blank, reduced};
+ghost use Rattle.std.specs.Prelude.{◌≡◌, ◌+◌, ◌≤◌, length};
+ghost use Rattle.plans.specs.Posting.{adds_column, blank};
 ghost use Rattle.sheets.specs.Words.{numbers_of};
 ghost use Rattle.sheets.specs.Table.{Step};
 ghost use Rattle.sheets.specs.Work.{column_at, CameAt, Laid, Topped, Normal};
 
-use crate::cells::{Overflow, combine, copy, read, scale, write};
+use crate::cells::{Overflow, copy, scale, write};
 use crate::table::Table;
 use kinds::kind::Kind;
-
-// Adds q × the column at `from` to the column at `to`.
-fn add_column<K: Kind>(
-    cells: &mut [K::Cell],
-    to: usize,
-    from: usize,
-    n: usize,
-    q: K,
-) -> Result<(), Overflow>
-    requires to { to + (n + 1) ≤ length cells.old }
-    requires from { from + (n + 1) ≤ length cells.old }
-    requires apart { (to + (n + 1) ≤ from) ⊎ (from + (n + 1) ≤ to) }
-    ensures { CameAt K.Kind.arith (adds_column K.Kind.arith (column_at K.Kind.arith cells.old n to) q (column_at K.Kind.arith cells.old n from)) n to cells.old result cells.new }
-{
-    combine(cells, to, from, n + 1, q)
-}
 
 // Multiplies the column at `at` by u.
 pub(crate) fn scale_column<K: Kind>(
@@ -35,26 +19,11 @@ pub(crate) fn scale_column<K: Kind>(
     u: K,
 ) -> Result<(), Overflow>
     requires { at + (n + 1) ≤ length cells.old }
-    ensures { CameAt K.Kind.arith (adds_column K.Kind.arith (blank K.Kind.arith (column_at K.Kind.arith cells.old n at)) u (column_at K.Kind.arith cells.old n at)) n at cells.old result cells.new }
+    ensures { let a = K.Kind.arith in
+        let column = column_at a cells.old n at in
+        CameAt a (adds_column a (blank a column) u column) n at cells.old result cells.new }
 {
     scale(cells, at, n + 1, u)
-}
-
-// Takes from the column at `to` the column at `by` × the quotient of their tops.
-pub(crate) fn reduce<K: Kind>(
-    cells: &mut [K::Cell],
-    to: usize,
-    by: usize,
-    n: usize,
-) -> Result<(), Overflow>
-    requires to { to + (n + 1) ≤ length cells.old }
-    requires by { by + (n + 1) ≤ length cells.old }
-    requires apart { (to + (n + 1) ≤ by) ⊎ (by + (n + 1) ≤ to) }
-    ensures { CameAt K.Kind.arith (reduced K.Kind.arith (column_at K.Kind.arith cells.old n to) (column_at K.Kind.arith cells.old n by)) n to cells.old result cells.new }
-{
-    let c = read::<K>(cells, to);
-    let q = c.quotient(read::<K>(cells, by)).ok_or(Overflow)?;
-    add_column(cells, to, by, n, q.negative())
 }
 
 // Lays a column at `to`: a top, and below it the n numbers from `from` on.
@@ -74,7 +43,8 @@ impl<K: Kind> Table<'_, K> {
         requires { length coefficients.now ≡ self.old.shape.unknowns }
         ensures held { self.new.cells.ghost_name ≡ self.old.cells.ghost_name }
         ensures shape { self.new.shape ≡ self.old.shape }
-        ensures laid { Step (Topped K.Kind.arith (numbers_of K.Kind.arith coefficients.now)) self.old result self.new }
+        ensures laid { let cs = numbers_of K.Kind.arith coefficients.now in
+            Step (Topped K.Kind.arith cs) self.old result self.new }
     {
         for j in 0..self.shape.moves {
             let from = self.shape.row(j);

@@ -27,7 +27,8 @@ impl<K: Kind> Table<'_, K> {
         requires { pivot < self.old.shape.moves }
         ensures held { self.new.cells.ghost_name ≡ self.old.cells.ghost_name }
         ensures shape { self.new.shape ≡ self.old.shape }
-        ensures finished { Step (Finished K.Kind.arith (finished K.Kind.arith (Some (pivot, work_of self.old))) pivot) self.old result self.new }
+        ensures finished { let outcome = finished K.Kind.arith (Some (pivot, work_of self.old)) in
+            Step (Finished K.Kind.arith outcome pivot) self.old result self.new }
     {
         let at = self.shape.spare();
         let p = self.shape.column(pivot);
@@ -48,7 +49,9 @@ impl<K: Kind> Table<'_, K> {
         requires { pivot < self.old.shape.moves }
         ensures held { self.new.cells.ghost_name ≡ self.old.cells.ghost_name }
         ensures shape { self.new.shape ≡ self.old.shape }
-        ensures cells { self.new.cells.now ≡ over self.old.cells.now self.old.shape.unknowns (held K.Kind.arith (flat_map (λ move. move) (left_of self.old pivot).moves)) }
+        ensures cells { let n = self.old.shape.unknowns in
+            let rows = flat_map (λ move. move) (left_of self.old pivot).moves in
+            self.new.cells.now ≡ over self.old.cells.now n (held K.Kind.arith rows) }
     {
         for j in 0..self.shape.moves - 1 {
             let from = self.shape.column(source(j, pivot));
@@ -62,7 +65,9 @@ impl<K: Kind> Table<'_, K> {
         requires { pivot < self.old.shape.moves }
         ensures held { self.new.cells.ghost_name ≡ self.old.cells.ghost_name }
         ensures shape { self.new.shape ≡ self.old.shape }
-        ensures cells { self.new.cells.now ≡ over self.old.cells.now 0 (main_of K.Kind.arith self.old.shape.unknowns (left_of self.old pivot)) }
+        ensures cells { let n = self.old.shape.unknowns in
+            let main = main_of K.Kind.arith n (left_of self.old pivot) in
+            self.new.cells.now ≡ over self.old.cells.now 0 main }
     {
         let n = self.shape.unknowns;
         let left = self.shape.moves - 1;

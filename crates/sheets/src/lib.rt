@@ -2,16 +2,18 @@
 
 #![tactic(auto)]
 
+pub mod call;
 mod cells;
 mod columns;
 mod finishing;
 mod opening;
 mod picking;
-pub mod posting;
+mod posting;
 mod rounds;
 pub mod shape;
 pub mod sheet;
 mod showing;
 mod sums;
 mod table;
+pub mod theorems;
 mod words;

@@ -6,7 +6,7 @@ ghost use Rattle.sheets.specs.Cells.{held, needed, sheet_cells};
 ghost use Rattle.lines.specs.Page.{over};
 
 use crate::cells::{wipe, write};
-use crate::shape::Shape;
+use crate::shape::{MOST_UNKNOWNS, Shape};
 use crate::table::Table;
 use kinds::kind::Kind;
 
@@ -15,7 +15,8 @@ use kinds::kind::Kind;
 fn lay_unit<K: Kind>(cells: &mut [K::Cell], from: usize, n: usize, j: usize)
     requires room { from + n ≤ length cells.old }
     requires there { j < n }
-    ensures { cells.new ≡ over cells.old from (held K.Kind.arith (slice_index_or (unit_moves K.Kind.arith n) j [])) }
+    ensures { let move = slice_index_or (unit_moves K.Kind.arith n) j [] in
+        cells.new ≡ over cells.old from (held K.Kind.arith move) }
 {
     wipe::<K>(cells, from, n);
     write(cells, from + j, K::one());
@@ -28,7 +29,9 @@ impl<K: Kind> Table<'_, K> {
         requires { self.old.shape.moves ≡ self.old.shape.unknowns }
         ensures held { self.new.cells.ghost_name ≡ self.old.cells.ghost_name }
         ensures shape { self.new.shape ≡ self.old.shape }
-        ensures cells { self.new.cells.now ≡ over self.old.cells.now self.old.shape.unknowns (held K.Kind.arith (flat_map (λ move. move) (unit_moves K.Kind.arith self.old.shape.unknowns))) }
+        ensures cells { let n = self.old.shape.unknowns in
+            let rows = flat_map (λ move. move) (unit_moves K.Kind.arith n) in
+            self.new.cells.now ≡ over self.old.cells.now n (held K.Kind.arith rows) }
     {
         for j in 0..self.shape.moves {
             lay_unit::<K>(self.cells, self.shape.row(j), self.shape.unknowns, j);
@@ -40,7 +43,9 @@ impl<K: Kind> Table<'_, K> {
         requires { self.old.shape.moves ≡ self.old.shape.unknowns }
         ensures held { self.new.cells.ghost_name ≡ self.old.cells.ghost_name }
         ensures shape { self.new.shape ≡ self.old.shape }
-        ensures cells { self.new.cells.now ≡ sheet_cells K.Kind.arith self.old.shape.unknowns (new_sheet K.Kind.arith self.old.shape.unknowns) self.old.cells.now }
+        ensures cells { let n = self.old.shape.unknowns in
+            let sheet = new_sheet K.Kind.arith n in
+            self.new.cells.now ≡ sheet_cells K.Kind.arith n sheet self.old.cells.now }
     {
         let n = self.shape.unknowns;
         wipe::<K>(self.cells, 0, n);
@@ -51,7 +56,7 @@ impl<K: Kind> Table<'_, K> {
 
 // Lays the new sheet of n unknowns into cells that suffice for it; answers its shape.
 pub(crate) fn lay_sheet<K: Kind>(cells: &mut [K::Cell], n: usize) -> Shape
-    requires small { n ≤ 24 }
+    requires small { n ≤ MOST_UNKNOWNS }
     requires room { needed n ≤ length cells.old }
     ensures unknowns { result.unknowns ≡ n }
     ensures moves { result.moves ≡ n }

@@ -1,10 +1,9 @@
 // The plan of a choice, worked out from a sheet's cells.
-// That they suffice is kept as a `requires`: a sheet may be taken up over any cells, and no invariant of it can say so.
+// That they suffice is a `requires`: the sheet's invariant says so where it has unknowns.
 ghost use Rattle.std.specs.Prelude.{◌≡◌, ◌<◌, ◌≤◌, length};
 ghost use Rattle.sheets.specs.Cells.{needed};
-ghost use Rattle.sheets.specs.Law.{contents_of};
 ghost use Rattle.sheets.specs.Picking.{picked as picked_of, plan_of, Planned};
-ghost use Rattle.sheets.specs.Sheet.{model};
+ghost use Rattle.sheets.specs.Sheet.{contents_of, model};
 ghost use Rattle.sheets.specs.Words.{numbers_of};
 
 use crate::cells::read;
@@ -20,7 +19,9 @@ impl<K: Kind> Sheet<'_, K> {
         requires room { needed self.now.shape.unknowns ≤ length self.now.cells.now }
         requires exact { length choice.now ≡ self.now.shape.moves }
         requires there { i < self.now.shape.unknowns }
-        ensures { result ≡ picked_of K.Kind.arith (contents_of K.Kind.arith (model self.now)) (numbers_of K.Kind.arith choice.now) i }
+        ensures { let a = K.Kind.arith in
+            let contents = contents_of a (model self.now) in
+            result ≡ picked_of a contents (numbers_of a choice.now) i }
     {
         let mut sum = read::<K>(self.cells, i);
         for (j, word) in choice.iter().enumerate() {
@@ -35,7 +36,10 @@ impl<K: Kind> Sheet<'_, K> {
     pub(crate) fn plan_words(&self, choice: &[i32]) -> Option<[i32; MOST_UNKNOWNS]>
         requires room { needed self.now.shape.unknowns ≤ length self.now.cells.now }
         requires exact { length choice.now ≡ self.now.shape.moves }
-        ensures { Planned K.Kind.arith (plan_of K.Kind.arith self.now.shape.unknowns (contents_of K.Kind.arith (model self.now)) (numbers_of K.Kind.arith choice.now)) self.now.shape.unknowns result }
+        ensures { let a = K.Kind.arith in
+            let n = self.now.shape.unknowns in
+            let contents = contents_of a (model self.now) in
+            Planned a (plan_of a n contents (numbers_of a choice.now)) n result }
     {
         let mut words = [0; MOST_UNKNOWNS];
         for (i, word) in words[..self.shape.unknowns].iter_mut().enumerate() {

@@ -7,6 +7,7 @@ ghost use Rattle.sheets.specs.Posted.{answer_of, cells_after, Prepared, Settled}
 ghost use Rattle.sheets.specs.Table.{Step, B_of, columns_of, outcome_in, outcome_on};
 ghost use Rattle.sheets.specs.Words.{number_of, numbers_of};
 
+use crate::call::{Answer, Success};
 use crate::cells::{Overflow, wipe};
 use crate::columns::lay_column;
 use crate::shape::Shape;
@@ -14,15 +15,6 @@ use crate::table::Table;
 use crate::words::word_number;
 use faults::SheetFault;
 use kinds::kind::Kind;
-
-// What came of a posting that is not refused.
-#[derive(Clone, Copy, Debug, PartialEq, Eq)]
-pub enum Verdict {
-    // The equation is in force from now on.
-    Taken,
-    // Every plan of the sheet meets the equation already.
-    Implied,
-}
 
 impl From<Overflow> for SheetFault {
     ghost from_gives = { λ lower whole. whole ≡ Overflowed };
@@ -40,7 +32,11 @@ impl<K: Kind> Table<'_, K> {
         requires { length words.now ≡ self.old.shape.unknowns + 1 }
         ensures held { self.new.cells.ghost_name ≡ self.old.cells.ghost_name }
         ensures shape { self.new.shape ≡ self.old.shape }
-        ensures prepared { Step (Prepared K.Kind.arith (numbers_of K.Kind.arith (take self.old.shape.unknowns words.now)) (number_of K.Kind.arith (slice_index_or words.now self.old.shape.unknowns (pos 0)))) self.old result self.new }
+        ensures prepared { let a = K.Kind.arith in
+            let n = self.old.shape.unknowns in
+            let cs = numbers_of a (take n words.now) in
+            let right = number_of a (slice_index_or words.now n (pos 0)) in
+            Step (Prepared a cs right) self.old result self.new }
     {
         let n = self.shape.unknowns;
         let coefficients = &words[..n];
@@ -52,10 +48,12 @@ impl<K: Kind> Table<'_, K> {
     }
 
     // Works the columns down to one pivot, and writes back what is left where the equation is taken.
-    fn settle(&mut self) -> Result<Verdict, SheetFault>
+    fn settle(&mut self) -> Answer
         ensures held { self.new.cells.ghost_name ≡ self.old.cells.ghost_name }
         ensures shape { self.new.shape ≡ self.old.shape }
-        ensures settled { Step (Settled K.Kind.arith (worked K.Kind.arith (B_of self.old) (normalised K.Kind.arith (columns_of self.old)))) self.old result self.new }
+        ensures settled { let a = K.Kind.arith in
+            let outcome = worked a (B_of self.old) (normalised a (columns_of self.old)) in
+            Step (Settled a outcome) self.old result self.new }
     {
         self.normalise()?;
         let pivot = self.rounds()?;
@@ -64,21 +62,22 @@ impl<K: Kind> Table<'_, K> {
             return Err(SheetFault::Contradicted);
         }
         self.close_up(pivot);
-        Ok(Verdict::Taken)
+        Ok(Success::Done)
     }
 
     // Works a posting out in the spare cells, which are left as they may be; where the equation is taken, the main
     // cells hold the new plan and moves.
-    fn work(&mut self, words: &[i32]) -> Result<Verdict, SheetFault>
+    fn work(&mut self, words: &[i32]) -> Answer
         requires { length words.now ≡ self.old.shape.unknowns + 1 }
         ensures held { self.new.cells.ghost_name ≡ self.old.cells.ghost_name }
         ensures shape { self.new.shape ≡ self.old.shape }
-        ensures settled { Step (Settled K.Kind.arith (outcome_on self.old words.now)) self.old result self.new }
+        ensures settled { let outcome = outcome_on self.old words.now in
+            Step (Settled K.Kind.arith outcome) self.old result self.new }
     {
         self.prepare(words)?;
         if self.all_zero() {
             if self.number(self.shape.spare()).is_zero() {
-                return Ok(Verdict::Implied);
+                return Ok(Success::Implied);
             }
             return Err(SheetFault::Contradicted);
         }
@@ -86,12 +85,14 @@ impl<K: Kind> Table<'_, K> {
     }
 
     // Posts an equation. The shape is kept: the caller counts the moves of the sheet.
-    pub(crate) fn post(&mut self, words: &[i32]) -> Result<Verdict, SheetFault>
+    pub(crate) fn post(&mut self, words: &[i32]) -> Answer
         requires { length words.now ≡ self.old.shape.unknowns + 1 }
         ensures held { self.new.cells.ghost_name ≡ self.old.cells.ghost_name }
         ensures shape { self.new.shape ≡ self.old.shape }
         ensures value { result ≡ answer_of (outcome_on self.old words.now) }
-        ensures cells { self.new.cells.now ≡ cells_after K.Kind.arith (outcome_on self.old words.now) self.old.shape.unknowns self.old.cells.now }
+        ensures cells { let n = self.old.shape.unknowns in
+            let outcome = outcome_on self.old words.now in
+            self.new.cells.now ≡ cells_after K.Kind.arith outcome n self.old.cells.now }
     {
         let verdict = self.work(words);
         let n = self.shape.unknowns;
@@ -101,15 +102,12 @@ impl<K: Kind> Table<'_, K> {
 }
 
 // Posts an equation to the sheet of a shape that stands in the cells.
-pub(crate) fn post_words<K: Kind>(
-    cells: &mut [K::Cell],
-    shape: Shape,
-    words: &[i32],
-) -> Result<Verdict, SheetFault>
+pub(crate) fn post_words<K: Kind>(cells: &mut [K::Cell], shape: Shape, words: &[i32]) -> Answer
     requires room { needed shape.unknowns ≤ length cells.old }
     requires exact { length words.now ≡ shape.unknowns + 1 }
     ensures value { result ≡ answer_of (outcome_in K.Kind.arith shape cells.old words.now) }
-    ensures cells { cells.new ≡ cells_after K.Kind.arith (outcome_in K.Kind.arith shape cells.old words.now) shape.unknowns cells.old }
+    ensures cells { let outcome = outcome_in K.Kind.arith shape cells.old words.now in
+        cells.new ≡ cells_after K.Kind.arith outcome shape.unknowns cells.old }
 {
     let mut table = Table::<K> { cells, shape };
     table.post(words)

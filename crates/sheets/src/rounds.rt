@@ -1,62 +1,72 @@
 // The rounds of a posting, on column B and the moves' columns.
-// That pivot and runner-up are moves is kept as a `requires`, as in the end of a posting.
-ghost use Rattle.std.specs.Prelude.{◌≡◌, ◌<◌, ◌≢◌, Some};
-ghost use Rattle.plans.specs.Posting.{round as rounded, turn as turned, pivot_of};
-ghost use Rattle.sheets.specs.Table.{Step, work_of, columns_of};
-ghost use Rattle.sheets.specs.Work.{Worked, Turned, Ended};
+ghost use Rattle.std.specs.Prelude.{◌≡◌, ◌<◌, IfSome};
+ghost use Rattle.plans.specs.Posting.{largest_of};
+ghost use Rattle.sheets.specs.Table.{Step, B_of, top_of, size_of};
+ghost use Rattle.sheets.specs.Work.{unless_zero, factors as factors_of, Ended};
 
-use crate::cells::Overflow;
-use crate::columns::reduce;
+use crate::cells::{Overflow, add_number};
 use crate::table::Table;
 use kinds::kind::Kind;
 
 impl<K: Kind> Table<'_, K> {
-    // Takes from B the pivot × the quotient of their tops, and then from the pivot the runner-up likewise.
-    fn round(&mut self, pivot: usize, runner: usize) -> Result<(), Overflow>
-        requires pivot { pivot < self.old.shape.moves }
-        requires runner { runner < self.old.shape.moves }
-        requires other { pivot ≢ runner }
-        ensures held { self.new.cells.ghost_name ≡ self.old.cells.ghost_name }
-        ensures shape { self.new.shape ≡ self.old.shape }
-        ensures worked { Step (Worked K.Kind.arith (rounded K.Kind.arith (work_of self.old) pivot runner)) self.old result self.new }
+    // The runner-up to the pivot; None where every other top has size 0.
+    fn runner_up(&self, pivot: usize) -> Option<usize>
+        ensures value { let size = size_of self.now in
+            result ≡ unless_zero size (largest_of size pivot self.now.shape.moves) }
+        ensures within { IfSome result (λ r. r < self.now.shape.moves) }
     {
-        let n = self.shape.unknowns;
-        let p = self.shape.column(pivot);
-        let r = self.shape.column(runner);
-        let b = self.shape.spare();
-        reduce::<K>(self.cells, b, p, n)?;
-        reduce::<K>(self.cells, p, r, n)
-    }
-
-    // One turn from the pivot: after a round the runner-up, which is the next pivot; None where no runner-up is left.
-    fn turn(&mut self, pivot: usize) -> Result<Option<usize>, Overflow>
-        requires { pivot_of K.Kind.arith (columns_of self.old) ≡ Some pivot }
-        ensures held { self.new.cells.ghost_name ≡ self.old.cells.ghost_name }
-        ensures shape { self.new.shape ≡ self.old.shape }
-        ensures turned { Step (Turned K.Kind.arith (turned K.Kind.arith (work_of self.old)) pivot) self.old result self.new }
-    {
-        match self.largest(Some(pivot)) {
-            Some(runner) if !self.top(runner).is_zero() => {
-                self.round(pivot, runner)?;
-                Ok(Some(runner))
-            }
-            _ => Ok(None),
+        let runner = self.largest(Some(pivot))?;
+        if self.top(runner).is_zero() {
+            return None;
         }
+        Some(runner)
     }
 
-    // The rounds, until no runner-up is left: the pivot then.
+    // What a round multiplies the pivot by to add it to B, and the runner-up to add it to the pivot.
+    // That pivot and runner-up are moves is kept as a `requires`, as in the end of a posting.
+    fn factors(&self, pivot: usize, runner: usize) -> Option<(K, K)>
+        requires pivot { pivot < self.now.shape.moves }
+        requires runner { runner < self.now.shape.moves }
+        ensures { let top = top_of self.now in
+            result ≡ factors_of K.Kind.arith (B_of self.now).top (top pivot) (top runner) }
+    {
+        let b = self.number(self.shape.spare());
+        let p = self.top(pivot);
+        let r = self.top(runner);
+        let of_b = b.quotient(p)?.negative();
+        let of_pivot = p.quotient(r)?.negative();
+        Some((of_b, of_pivot))
+    }
+
+    // The rounds, until no runner-up is left: the pivot then. A round reduces B by the pivot, and the pivot by the
+    // runner-up, in one walk down the entries of both.
     pub(crate) fn rounds(&mut self) -> Result<usize, Overflow>
         ensures held { self.new.cells.ghost_name ≡ self.old.cells.ghost_name }
         ensures shape { self.new.shape ≡ self.old.shape }
         ensures ended { Step (Ended K.Kind.arith) self.old result self.new }
     {
+        let n = self.shape.unknowns;
+        let b = self.shape.spare();
         let mut pivot = self.largest(None).ok_or(Overflow)?;
-        let last = loop {
-            match self.turn(pivot)? {
-                Some(runner) => pivot = runner,
-                None => break pivot,
+        let end = 'rounds: loop {
+            let Some(runner) = self.runner_up(pivot) else {
+                break 'rounds Ok(pivot);
+            };
+            let Some(factors) = self.factors(pivot, runner) else {
+                break 'rounds Err(Overflow);
+            };
+            let (of_b, of_pivot) = factors;
+            let p = self.shape.column(pivot);
+            let r = self.shape.column(runner);
+            for i in 0..=n {
+                if add_number(self.cells, b + i, p + i, of_b).is_none()
+                    || add_number(self.cells, p + i, r + i, of_pivot).is_none()
+                {
+                    break 'rounds Err(Overflow);
+                }
             }
+            pivot = runner;
         };
-        Ok(last)
+        end
     }
 }

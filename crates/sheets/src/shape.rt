@@ -1,6 +1,7 @@
 // How large a sheet is, where its parts stand in its cells, and what it is besides them.
 ghost use Rattle.std.specs.Prelude.{◌≡◌, ◌+◌, ◌*◌, ◌<◌, ◌≤◌};
 ghost use Rattle.sheets.specs.Cells.{main_cells, needed};
+ghost use Rattle.sheets.specs.declared.shape.TheConstants.{MOST_UNKNOWNS};
 
 // As many unknowns as a sheet may have.
 pub const MOST_UNKNOWNS: usize = 24;
@@ -10,7 +11,7 @@ pub struct Shape {
     // 0 where the sheet could not be opened: opening is public and cannot fail.
     pub(crate) unknowns: usize,
     pub(crate) moves: usize,
-    ghost small: { unknowns ≤ 24 },
+    ghost small: { unknowns ≤ MOST_UNKNOWNS },
     ghost few: { moves ≤ unknowns },
 }
 
@@ -26,7 +27,8 @@ impl Shape {
     // Where the column of move j has its top, behind column B.
     pub(crate) fn column(self, j: usize) -> usize
         requires { j < self.moves }
-        ensures value { result ≡ main_cells self.unknowns + (self.unknowns + 1) + j * (self.unknowns + 1) }
+        ensures value { let height = self.unknowns + 1 in
+            result ≡ main_cells self.unknowns + height + j * height }
         ensures within { result + (self.unknowns + 1) ≤ needed self.unknowns }
     {
         self.spare() + (self.unknowns + 1) + j * (self.unknowns + 1)

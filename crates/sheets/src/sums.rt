@@ -24,7 +24,10 @@ impl<K: Kind> Table<'_, K> {
     // of each move.
     pub(crate) fn running_sum(&self, coefficients: &[i32], from: usize, start: K) -> Option<K>
         requires { from + length coefficients.now ≤ length self.now.cells.now }
-        ensures { result ≡ running K.Kind.arith start (numbers_of K.Kind.arith coefficients.now) (numbers K.Kind.arith (part from (length coefficients.now) self.now.cells.now)) }
+        ensures { let a = K.Kind.arith in
+            let cs = numbers_of a coefficients.now in
+            let xs = numbers a (part from (length coefficients.now) self.now.cells.now) in
+            result ≡ running a start cs xs }
     {
         let mut sum = start;
         for (i, word) in coefficients.iter().enumerate() {
@@ -51,7 +54,8 @@ impl<K: Kind> Table<'_, K> {
     // The move, but the one to skip, whose column has the largest top by size, the lowest place on a tie.
     // Kept as a loop: of a chain that keeps the larger of two places no clause says which place it gives.
     pub(crate) fn largest(&self, skip: Option<usize>) -> Option<usize>
-        ensures value { result ≡ largest_of (size_of self.now) (skipped skip self.now.shape.moves) self.now.shape.moves }
+        ensures value { let k = self.now.shape.moves in
+            result ≡ largest_of (size_of self.now) (skipped skip k) k }
         ensures within { IfSome result (λ b. b < self.now.shape.moves) }
     {
         let mut best = None;

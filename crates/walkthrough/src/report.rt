@@ -1,7 +1,8 @@
 // What is written of the calls of a run, their answers and the picked plan. By functions and not by `Display`: the
 // types are other crates'.
 use decimal::{Equation, Row};
-use runs::call::{Call, Step, Success, number_of};
+use runs::step::Step;
+use sheets::call::{Call, Success, number_of};
 use std::io;
 use std::io::Write;
 
@@ -17,21 +18,26 @@ pub fn steps<W: Write>(out: &mut W, steps: &[Step]) -> io::Result<()> {
     Ok(())
 }
 
-// The words lent for a plan, if one was picked.
-pub fn plan<W: Write>(out: &mut W, steps: &[Step], plan: &[i32]) -> io::Result<()> {
-    if any_picked(steps) {
-        let row = Row(plan);
-        writeln!(out, "    picked plan: {row}")
-    } else {
-        writeln!(out, "    picked plan: none")
+// The plan that was picked last.
+pub fn plan<W: Write>(out: &mut W, steps: &[Step]) -> io::Result<()> {
+    match picked_last(steps) {
+        Some(words) => {
+            let row = Row(words);
+            writeln!(out, "    picked plan: {row}")
+        }
+        None => writeln!(out, "    picked plan: none"),
     }
 }
 
-fn any_picked(steps: &[Step]) -> bool {
-    steps.iter().any(|step| matches!(
-        (&step.call, step.answer),
-        (Call::Pick(_), Ok(Success::Done))
-    ))
+// The words of the last picking that was done.
+fn picked_last<'a>(steps: &'a [Step]) -> Option<&'a [i32]> {
+    let mut last = None;
+    for step in steps {
+        if let (Call::Pick(_), Ok(Success::Done)) = (&step.call, step.answer) {
+            last = Some(&*step.words);
+        }
+    }
+    last
 }
 
 // What was asked, in words: no `Display` of a call, which is another crate's type.

@@ -20,7 +20,7 @@ def sheet_inputs():
     yield "a last line that lacks its line feed", opened + EQUATION
     yield "many chunks", opened + b"".join(r.choice([EQUATION, b"0500", b"0300", b"", b"zz", b"F" * 300]) + b"\n" for _ in range(20000))
     yield "over a thousand chunks", (b"F" * 300 + b"\n") * 60000
-    yield "more lines than are read", b"0500\n" * 1000003
+    yield "more lines than are read", b"0500\n" * 1010003
     yield "as many lines as are read, the last lacking its line feed", b"05\n" * 999999 + b"0500"
 
 

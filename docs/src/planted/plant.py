@@ -58,7 +58,7 @@ def bugs_of(folder, crate):
 
 def functions(path):
     """The functions of a file that do something: name, first and last line. Tests are left out, and those that only
-    carry a theorem, whose body is 0."""
+    carry a theorem, whose body is empty."""
     lines, owner, test = open(path).read().split("\n"), "", False
     for i, line in enumerate(lines):
         owned = re.match(r"(?:pub )?trait (\w+)", line) or re.match(r"impl\b.*? (?:.*\bfor )?(?:\w+::)*(\w+)(<.*>)? \{", line)
@@ -68,9 +68,9 @@ def functions(path):
         if not found:
             continue
         indent, name = found.groups()
-        end = next(j for j in range(i, len(lines)) if lines[j].rstrip() == indent + "}" or lines[j].endswith(";") and
+        end = next(j for j in range(i, len(lines)) if lines[j].rstrip() in (indent + "}", indent + "{}") or lines[j].endswith(";") and
                    not lines[j].startswith(indent + " ") or lines[j].startswith(indent + "    ensures") and lines[j].endswith("};"))
-        carries = lines[end - 1].strip() == "0"
+        carries = lines[end].strip() == "{}" or lines[end - 1].strip() == "0"
         if lines[end].rstrip() == indent + "}" and not test and not carries:
             yield (f"{owner}::{name}" if indent and owner else name), i, end
         test = False
@@ -118,6 +118,7 @@ def plant_alone(copy, crate, bugs):
 
 
 REFUSED_AT = r"^(?:note: )?(?:\./)?((?:src|proofs)/[\w/]+\.\w+):(\d+):\d+: (?:error|it is not proved|`search`)"
+BY_NAME = r"has no field|that can be named|\(nearest: "
 UNREAD_AT = r"^(?:\./)?(src/[\w/]+\.\w+):(\d+):\d+: error\["
 
 
@@ -131,7 +132,8 @@ def function_at(folder, path, line):
 
 
 def plant_together(copy, crate, bugs):
-    """What one check says of bugs that stand in functions of their own, by number; nothing of one that it lets pass."""
+    """What one check says of bugs that stand in functions of their own, by number; nothing of one that it lets pass, or
+    that it refuses only over names in a proof file."""
     folder = f"{copy}/crates/{crate}"
     kept = {bug.path: open(f"{folder}/{bug.path}").read() for bug in bugs.values()}
     texts = dict(kept)
@@ -152,7 +154,8 @@ def plant_together(copy, crate, bugs):
     if "logic=not-proved" not in out:
         return said
     for m in re.finditer(REFUSED_AT + ".*$", out, re.M):
-        said.setdefault(function_at(folder, m[1], int(m[2])), m[0])
+        if not re.search(BY_NAME, m[0]):
+            said.setdefault(function_at(folder, m[1], int(m[2])), m[0])
     return {number: said[bug.place] for number, bug in bugs.items() if bug.place in said}
 
 
@@ -174,7 +177,12 @@ def plant(copy, crate, bugs):
     return said | (plant_alone(copy, crate, alone) if alone else {})
 
 
-PROGRAMS = {"plancheck": ["python3", "{root}/docs/src/plancheck/model.py"], "sheet": ["{copy}/model"], "walkthrough": []}
+PROGRAMS = {
+    "plancheck": ["python3", "{root}/docs/src/plancheck/model.py"],
+    "sheet": ["{copy}/model"],
+    "walkthrough": [],
+    "lending": [],
+}
 
 
 def shown_by(root, copy, crate):

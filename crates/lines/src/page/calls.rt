@@ -1,10 +1,11 @@
 // The calls of a page. Each is stated on the page's model, and keeps whose bytes the page holds.
-ghost use Rattle.std.specs.Prelude.{◌≡◌, ◌+◌, ◌≤◌, length, Some, None, MatchResult};
-ghost use Rattle.lines.specs.Page.{over, zeroed, model, empty_page, with_bytes, begin_refusal, began, put_refusal, with_word, end_refusal, closed, given_up, text_refusal};
+ghost use Rattle.std.specs.Prelude.{◌≡◌, ◌+◌, ◌≤◌, length};
+ghost use Rattle.lines.specs.Page.{over, with_zeroes, model, empty_page, with_bytes, begin_answer, begin_left, put_answer, put_left, line_or_owed, end_answer, close_left, give_up_left, text_refusal};
 
 use super::begun::Begun;
 use super::{LineToken, Owed, Page};
 use crate::hex::{byte_digits, word_digits};
+use crate::reading::MOST_NUMBERS;
 use faults::PageFault;
 
 impl<'a> Page<'a> {
@@ -24,7 +25,8 @@ impl<'a> Page<'a> {
     fn lay(&mut self, at: usize, s: &[u8])
         requires { at + length s.now ≤ length self.old.bytes.now }
         ensures held { self.new.bytes.ghost_name ≡ self.old.bytes.ghost_name }
-        ensures model { model self.new ≡ with_bytes (model self.old) (over self.old.bytes.now at s.now) }
+        ensures model { model self.new
+            ≡ with_bytes (model self.old) (over self.old.bytes.now at s.now) }
         ensures len { length self.new.bytes.now ≡ length self.old.bytes.now }
     {
         self.bytes[at..at + s.len()].copy_from_slice(s);
@@ -34,7 +36,8 @@ impl<'a> Page<'a> {
     fn wipe(&mut self, at: usize, n: usize)
         requires { at + n ≤ length self.old.bytes.now }
         ensures held { self.new.bytes.ghost_name ≡ self.old.bytes.ghost_name }
-        ensures model { model self.new ≡ with_bytes (model self.old) (zeroed self.old.bytes.now at n) }
+        ensures model { model self.new
+            ≡ with_bytes (model self.old) (with_zeroes self.old.bytes.now at n) }
         ensures len { length self.new.bytes.now ≡ length self.old.bytes.now }
     {
         self.bytes[at..at + n].fill(0);
@@ -57,7 +60,8 @@ impl<'a> Page<'a> {
     // Begins a line with room for some numbers: zeroes what the line fills when full, and writes its frame.
     pub fn begin(&mut self, frame: u8, room: usize) -> Result<LineToken, PageFault>
         ensures held { self.new.bytes.ghost_name ≡ self.old.bytes.ghost_name }
-        ensures cases { MatchResult result (λ _. (begin_refusal (model self.old) room ≡ None) × (model self.new ≡ began (model self.old) frame room)) (λ fault. (begin_refusal (model self.old) room ≡ Some fault) × (model self.new ≡ model self.old)) }
+        ensures answer { result ≡ begin_answer (model self.old) room }
+        ensures left { model self.new ≡ begin_left (model self.old) frame room }
     {
         if self.line.is_some() {
             return Err(PageFault::LineBegun);
@@ -67,7 +71,7 @@ impl<'a> Page<'a> {
         if rest < 5 || room > (rest - 5) / 8 {
             return Err(PageFault::NoRoom);
         }
-        if room > 25 {
+        if room > MOST_NUMBERS {
             return Err(PageFault::TooMany);
         }
         self.wipe(end, 5 + 8 * room);
@@ -79,7 +83,8 @@ impl<'a> Page<'a> {
     // Adds a number to the begun line.
     pub fn put(&mut self, _token: &LineToken, word: i32) -> Result<(), PageFault>
         ensures held { self.new.bytes.ghost_name ≡ self.old.bytes.ghost_name }
-        ensures cases { MatchResult result (λ _. (put_refusal (model self.old) ≡ None) × (model self.new ≡ with_word (model self.old) word)) (λ fault. (put_refusal (model self.old) ≡ Some fault) × (model self.new ≡ model self.old)) }
+        ensures answer { result ≡ put_answer (model self.old) }
+        ensures left { model self.new ≡ put_left (model self.old) word }
     {
         let line = self.line.ok_or(PageFault::NoLine)?;
         if line.put >= line.room {
@@ -96,7 +101,7 @@ impl<'a> Page<'a> {
 
     // The begun line, whose token is taken; with none, the token is still owed.
     fn begun_line(&self, token: LineToken) -> Result<Begun, Owed>
-        ensures { MatchResult result (λ line. self.now.line ≡ Some line) (λ owed. (self.now.line ≡ None) × (owed.fault ≡ PageFault.NoLine)) }
+        ensures { result ≡ line_or_owed self.now.line token }
     {
         let Some(line) = self.line else {
             return Err(Owed {
@@ -112,7 +117,8 @@ impl<'a> Page<'a> {
     // page then ends.
     pub fn close(&mut self, token: LineToken) -> Result<(), Owed>
         ensures held { self.new.bytes.ghost_name ≡ self.old.bytes.ghost_name }
-        ensures cases { MatchResult result (λ _. (end_refusal (model self.old) ≡ None) × (model self.new ≡ closed (model self.old))) (λ owed. (end_refusal (model self.old) ≡ Some owed.fault) × (model self.new ≡ model self.old)) }
+        ensures answer { result ≡ end_answer (model self.old) token }
+        ensures left { model self.new ≡ close_left (model self.old) }
     {
         let put = self.begun_line(token)?.put;
         let end = self.end;
@@ -126,7 +132,8 @@ impl<'a> Page<'a> {
     // Gives the begun line up: zeroes its bytes, and the page ends where it ended before.
     pub fn give_up(&mut self, token: LineToken) -> Result<(), Owed>
         ensures held { self.new.bytes.ghost_name ≡ self.old.bytes.ghost_name }
-        ensures cases { MatchResult result (λ _. (end_refusal (model self.old) ≡ None) × (model self.new ≡ given_up (model self.old))) (λ owed. (end_refusal (model self.old) ≡ Some owed.fault) × (model self.new ≡ model self.old)) }
+        ensures answer { result ≡ end_answer (model self.old) token }
+        ensures left { model self.new ≡ give_up_left (model self.old) }
     {
         let line = self.begun_line(token)?;
         self.wipe(self.end, 5 + 8 * line.room);

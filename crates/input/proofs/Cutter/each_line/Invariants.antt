@@ -1,14 +1,12 @@
 -- `Cutter::each_line`: what holds at each turn of its loop and what gets smaller.
 use Rattle.std.proofs.Common.{◌≡◌, length}
-use Rattle.std.specs.Fn.{CalledAt}
 use Rattle.input.specs.Cutting.{lines, left, Handed}
 use Rattle.input.proofs.Cutter.each_line.Given as goal
 
 -- what is still to be done ends as the whole does
 abbrev pub invariant-loop-rest : goal.invariant-loop-rest
 invariant-loop-rest g l =
-    goal.F-IsAlwaysCallable g l.each
-    × ((result : _) (last : _) (held : _) → Handed (CalledAt g.F.FnMut) l.each (lines l.self l.text) result last held → Handed (CalledAt g.F.FnMut) l.fn.each (lines l.fn.self l.fn.chunk) result last held)
+    ((result : _) (last : _) (held : _) → Handed g.S.LineSink.takes l.sink (lines l.self l.text) result last held → Handed g.S.LineSink.takes l.fn.sink (lines l.fn.self l.fn.chunk) result last held)
     × (left l.self l.text ≡ left l.fn.self l.fn.chunk)
 
 abbrev pub decreases-loop-rest : goal.decreases-loop-rest

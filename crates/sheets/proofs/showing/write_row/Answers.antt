@@ -3,8 +3,8 @@ use Rattle.std.proofs.Common.{◌≡◌, ℕ, ◌+◌, map, length, get_or, fold
 use Rattle.std.proofs.lemmas.List.{length-map, get_or-map, take_all}
 use Rattle.std.proofs.lemmas.List.Sums.{fold_more}
 use Rattle.std.proofs.lemmas.Int.{to_z-of_z}
-use Rattle.lines.specs.Page.{Model, model, with_word, began, closed}
-use Rattle.lines.proofs.Filling.{line_stands}
+use Rattle.lines.specs.Page.{Model, model, with_word, begun_page, closed_page}
+use Rattle.lines.proofs.Filling.{line_stands, begun_stands, close_begun}
 use Rattle.sheets.specs.Cells.{number, numbers}
 use Rattle.sheets.proofs.showing.write_row.Goals as goal
 
@@ -37,7 +37,11 @@ returns-clause-model g c =
     let ns = numbers a row in
     let ws = map a.write ns in
     let l : length ws ≡ length row = length-map ns a.write ∙ length-map row (number a) in
-    let b : model c.begin.new.self ≡ began m c.args.frame (length ws) = (rw c.unwrap-token.ensures at c.begin.ensures.cases).1 ∙ ap (began m c.args.frame) (sym l) in
-    let p : model c.loop-cell.page ≡ fold with_word (began m c.args.frame (length ws)) ws
+    let d = begun_stands m (model c.begin.new.self) c.args.frame (length row) c.unwrap-token.result (sym c.begin.ensures.answer ∙ c.unwrap-token.ensures) c.begin.ensures.left in
+    let b : model c.begin.new.self ≡ begun_page m c.args.frame (length ws) = d.1 ∙ ap (begun_page m c.args.frame) (sym l) in
+    let p : model c.loop-cell.page ≡ fold with_word (begun_page m c.args.frame (length ws)) ws
     = c.loop-cell.invariant.1 ∙ (λ j. fold with_word (b j) (take_all c.loop-cell.cell-index ws (omega (arith, l, c.loop-cell-test.false)) j)) in
-    (rw c.unwrap-2.ensures at c.close.ensures.cases).1 ∙ ap closed p ∙ line_stands m c.args.frame ws (omega (arith, l, c.requires.page.room))
+    c.close.ensures.left
+    ∙ close_begun (model c.loop-cell.page) c.loop-cell.invariant.2
+    ∙ ap closed_page p
+    ∙ line_stands m c.args.frame ws (omega (arith, l, c.requires.page.room))

@@ -2,8 +2,9 @@
 use Rattle.std.proofs.Common.{◌≡◌, true, false, pos, not, get_or, is_some, sym, ap, ◌∙◌, rules, w32, SFits}
 use Rattle.std.proofs.ByRecursion.{All-more}
 use Rattle.std.proofs.lemmas.Int.{to_z-of_z}
+use Rattle.faults.specs.Refusing.{done_unless}
 use Rattle.lines.proofs.Finding.{find_here, find_on}
-use Rattle.sheets.specs.Sheet.{word_fault, done_unless}
+use Rattle.sheets.specs.Sheet.{word_fault}
 use Rattle.sheets.specs.Words.{is_refused}
 use Rattle.sheets.proofs.words.check_words.Goals as goal
 

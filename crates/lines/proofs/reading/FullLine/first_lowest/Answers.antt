@@ -3,7 +3,7 @@ use Rattle.std.proofs.Common.{rules, tests, ◌≡◌, ℕ, suc, ◌+◌, ◌*�
 use Rattle.std.proofs.lemmas.Iterator.{YieldsList-from_range}
 use Rattle.std.proofs.lemmas.Iterator.Search.{find_from_yields_List}
 use Rattle.std.specs.List.{range_with_len, position_from}
-use Rattle.lines.specs.Hex.{word_of}
+use Rattle.lines.specs.Hex.{word_of, find as find_at}
 use Rattle.lines.specs.Line.{is_lowest, words_of}
 use Rattle.lines.proofs.Words.{number_at, length_words_of}
 use Rattle.lines.proofs.reading.FullLine.first_lowest.Goals as goal
@@ -31,3 +31,4 @@ returns-clause-value c =
     = find_from_yields_List {v = λ x. x} (λ k. is_lowest (w k)) _ _ c.find.result c.find.ensures.ran (YieldsList-from_range 0 n n (cc) (omega arith)) (λ x b q k. search (rules, tests)) in
     sym (map_same c.find.result) ∙ e ∙ ap (λ m. find (λ k. is_lowest (w k)) (range_with_len 0 m)) (sym l)
     ∙ find_range is_lowest w ws (pos 0) 0 (λ k h. number_at n bytes k (omega arith) (pos 0) ∙ ap w (sym (zero-add k)))
+    ∙ ap (λ (m : ℕ). find_at is_lowest (words_of m (drop 4 bytes))) c.args.self.now.count

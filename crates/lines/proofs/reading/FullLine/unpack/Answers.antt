@@ -1,5 +1,5 @@
 -- `FullLine::unpack`: its loop keeps what holds at each turn and its clauses hold where it returns.
-use Rattle.std.proofs.Common.{◌≡◌, ◌<◌, ◌≤◌, List, [], ◌∷◌, ◌++◌, length, get_or, drop, ℤ, pos, sym, ap, ◌∙◌, arith, w32, to_z, of_z}
+use Rattle.std.proofs.Common.{◌≡◌, ℕ, ◌<◌, ◌≤◌, List, [], ◌∷◌, ◌++◌, length, get_or, drop, ℤ, pos, sym, ap, ◌∙◌, arith, w32, to_z, of_z}
 use Rattle.std.proofs.lemmas.List.{take_more_set, take_more, take_all, length-take-le}
 use Rattle.std.proofs.lemmas.Int.{to_z-of_z}
 use Rattle.lines.specs.Line.{words_of}
@@ -29,4 +29,8 @@ returns c =
     let e : length ws ≡ n = length_words_of n (drop 4 c.args.self.now.digits.bytes.now) in
     let f = length-take-le n c.args.words.now c.requires.room in
     let m : length items ≤ k = omega (arith, c.loop-k.auto.word-items, c.loop-k-test.false) in
-    ap (λ (xs : List ℤ). xs ++ drop n c.args.words.now) (sym (take_all k items m) ∙ c.loop-k.invariant ∙ take_all k ws (omega (arith, c.loop-k-test.false)))
+    ap (λ (xs : List ℤ). xs ++ drop n c.args.words.now)
+    (sym (take_all k items m)
+    ∙ c.loop-k.invariant
+    ∙ take_all k ws (omega (arith, c.loop-k-test.false))
+    ∙ ap (λ (m : ℕ). words_of m (drop 4 c.args.self.now.digits.bytes.now)) c.args.self.now.count)

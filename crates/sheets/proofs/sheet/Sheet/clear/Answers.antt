@@ -3,7 +3,7 @@ use Rattle.std.proofs.Common.{◌≡◌, Ok, Result, refl, rules}
 use Rattle.faults.specs.declared.SheetFault.{SheetFault}
 use Rattle.sheets.specs.Clearing.{clear_answer, clear_left}
 use Rattle.sheets.specs.Sheet.{Model, model}
-use Rattle.sheets.proofs.OneStep.{clear_keeps}
+use Rattle.sheets.proofs.ClearLaws.{clear_keeps}
 use Rattle.sheets.proofs.sheet.Sheet.clear.Goals as goal
 
 pub returns : goal.returns
@@ -14,5 +14,4 @@ returns g c =
     let after : Model g.row.K-Cell.Denot = record { cells = c.lay_sheet-self.new.cells; unknowns = c.lay_sheet-self.result.unknowns; moves = c.lay_sheet-self.result.moves; list = c.args.self.now.list } in
     let answer : r ≡ clear_answer m = search rules in
     let left : after ≡ clear_left a m = search rules in
-    let k = clear_keeps a g.met.K.Kind.kept m r after answer left in
-    record { held = refl; answer = answer; left = left; law = k.law; sound = k.sound; spare = k.spare }
+    record { held = refl; answer = answer; left = left; law = clear_keeps a g.met.K.Kind.kept m c.args.self.now.cells_enough r after answer left }

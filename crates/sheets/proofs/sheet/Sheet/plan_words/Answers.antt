@@ -1,9 +1,8 @@
 -- `Sheet::plan_words`: its loop keeps what holds at each turn and its clauses hold where it returns.
 use Rattle.std.proofs.Common.{◌≡◌, sym, ◌∙◌, subst, arith, w32, to_z, of_z}
 use Rattle.std.proofs.lemmas.Int.{to_z-of_z}
-use Rattle.sheets.specs.Law.{contents_of}
 use Rattle.sheets.specs.Picking.{plan_of, Planned}
-use Rattle.sheets.specs.Sheet.{model}
+use Rattle.sheets.specs.Sheet.{contents_of, model}
 use Rattle.sheets.specs.Words.{numbers_of}
 use Rattle.sheets.proofs.Plans.{fills_more, fills_none}
 use Rattle.sheets.proofs.sheet.Sheet.plan_words.Goals as goal

@@ -1,6 +1,5 @@
 -- `Sheet::plan_words`: what holds at each turn of its loop.
-use Rattle.sheets.specs.Law.{contents_of}
-use Rattle.sheets.specs.Sheet.{model}
+use Rattle.sheets.specs.Sheet.{contents_of, model}
 use Rattle.sheets.specs.Words.{numbers_of}
 use Rattle.sheets.proofs.Plans.{Filled}
 use Rattle.sheets.proofs.sheet.Sheet.plan_words.Given as goal

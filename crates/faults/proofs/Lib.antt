@@ -1,0 +1,2 @@
+-- The lemmas on faults that several crates share, a file each.
+pub mod Refusing

@@ -1,0 +1,2 @@
+-- The lemmas of the theorems of kinds.
+pub mod KindSamples
