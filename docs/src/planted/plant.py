@@ -136,9 +136,13 @@ def plant_together(copy, crate, bugs):
     that it refuses only over names in a proof file."""
     folder = f"{copy}/crates/{crate}"
     kept = {bug.path: open(f"{folder}/{bug.path}").read() for bug in bugs.values()}
-    texts = dict(kept)
-    for bug in bugs.values():
-        texts[bug.path] = bug.edited(texts[bug.path])
+    texts, planted = dict(kept), {}
+    for number, bug in bugs.items():
+        text = bug.edited(texts[bug.path])
+        # None where a bug that was planted before it has its text too: it is then planted alone.
+        if text is not None:
+            texts[bug.path], planted[number] = text, bug
+    bugs = planted
     try:
         for path, text in texts.items():
             open(f"{folder}/{path}", "w").write(text)
