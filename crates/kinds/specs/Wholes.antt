@@ -7,7 +7,7 @@ use Rattle.std.proofs.Math.IntN.{*ℤ-zero, +ℤ_idr}
 use Rattle.std.specs.Int.{w32, w64}
 use Rattle.std.proofs.lemmas.Int.{to_z-of_z, fits_signed_mul, unsigned_abs-mul}
 use borrow.Author.Differences.{ints, abs_is, sum_is_lem, fits_in}
-use Rattle.std.proofs.lemmas.Bool.{eqb-false, eq-eqb, ne_eqb, leb-true, le-leb, cases_eq, cond-true, cond-false}
+use Rattle.std.proofs.lemmas.Bool.{eqb-false, eq-eqb, ne_eqb, leb-true, le-leb, lt-leb, cases_eq, cond-true, cond-false}
 use Rattle.kinds.specs.declared.whole.Whole.{Whole}
 use Rattle.kinds.specs.Kind.{Laws, Same}
 use Rattle.kinds.specs.Whole.{nearest, fitted, down_by, floor, sign, wholes}
@@ -33,6 +33,9 @@ fitted_is z n e =
     let h : unsigned_abs z ≤ 2147483647 = subst (λ (x : ℤ). unsigned_abs x ≤ 2147483647) e n.ok in
     cond-true (nat_le (unsigned_abs z) 2147483647) (Some (nearest z)) None (le-leb _ _ h)
     ∙ ap Some (same_whole (nearest_is z h ∙ sym e))
+
+pub fitted_none : (z : ℤ) → 2147483647 < unsigned_abs z → fitted z ≡ None
+fitted_none z h = cond-false (nat_le (unsigned_abs z) 2147483647) (Some (nearest z)) None (lt-leb _ _ h)
 
 pub fitted_value : (z : ℤ) (n : Whole) → fitted z ≡ Some n → n.value ≡ z
 fitted_value z n e = by (nat_le (unsigned_abs z) 2147483647) refl e

@@ -1,5 +1,5 @@
 -- A picking keeps to its law.
-use Rattle.std.proofs.Common.{◌≡◌, ℕ, ◌≤◌, Bool, true, false, ◌&&◌, eqb, ◌↔◌, List, map, length, ℤ, Some, None, Ok, Err, Option, Result, sym, refl, ◌∙◌, subst, subst₂, arith, w32, SFits}
+use Rattle.std.proofs.Common.{◌≡◌, ℕ, ◌≤◌, Bool, true, false, ◌&&◌, eqb, ◌↔◌, List, map, length, ℤ, Some, None, Ok, Err, Option, Result, sym, refl, ap, ◌∙◌, subst, subst₂, arith, w32, SFits}
 use Rattle.std.specs.List.{AllByRecursion}
 use Rattle.std.proofs.lemmas.List.{length-map}
 use Rattle.std.proofs.lemmas.List.FromFn.{length-map-range_with_len}
@@ -114,6 +114,10 @@ module _ {N C : Type 0} (a : Arithmetic N C) (laws : Laws a) where
         by (Some fault) p q e = record { plan_there = λ h. absurd cc; count_right = λ h. absurd cc; kept = λ _. refl }
         by None None q e = record { plan_there = λ h. absurd cc; count_right = λ h. absurd cc; kept = λ _. refl }
         by None (Some xs) q e = record { plan_there = λ _. plan_right (pickable q) (fit q) xs e; count_right = λ _. (pickable q).count.0; kept = λ k. absurd (k refl) }
+
+    -- the plan of a picking that is done is the one that the choice makes, whatever the sheet stands for
+    pub pick_made : (pick_refusal a m choice (length words) ≡ None → AllByRecursion (SFits w32) choice) → pick_answer a m choice words ≡ Ok tt → MakesPlan a s choice (pick_left a m choice words)
+    pick_made fit e = ((wrote fit).plan_there (ap plain_answer e)).1
 
     pub pick_law : (pick_refusal a m choice (length words) ≡ None → AllByRecursion (SFits w32) choice) → (page : PageModel) →
         CallLaw a m (picking choice) (memory words page) (plain_answer (pick_answer a m choice words)) m (memory (pick_left a m choice words) page)

@@ -19,7 +19,7 @@ use Rattle.plans.proofs.Sizes.{Measured, Leaves, posted_leaves}
 use Rattle.sheets.specs.Cells.{main_cells, spare_cells, needed, HasCells, zero_cells, contents_in}
 use Rattle.sheets.specs.Answers.{Answer, verdict_answer}
 use Rattle.sheets.specs.Calls.{posting, Memory, in_force_after}
-use Rattle.sheets.specs.Law.{GoesThrough, StandsFor, Passes, Sound, SpareZero, RightlyRefused, PostingLacks, RightlyPosted, CallLaw}
+use Rattle.sheets.specs.Law.{GoesThrough, StandsFor, Passes, Sound, SpareZero, PostingLacks, PostingRefused, RightlyPosted, CallLaw}
 use Rattle.sheets.specs.Posted.{answer_of, main_after}
 use Rattle.sheets.specs.Sheet.{Model, contents_of, post_refusal, outcome_of, left_by, answer_unless, post_answer, post_left}
 use Rattle.sheets.specs.Words.{number_of, numbers_of}
@@ -133,7 +133,7 @@ module _ {N C : Type 0} (a : Arithmetic N C) (laws : Laws a) where
     abbrev out : Outcome N
     out = outcome_of a m ws
 
-    post_refused : RightlyRefused a n ws Counted (PostingLacks a n s ws) (answer_or (post_refusal a m ws) (answer_of out))
+    post_refused : PostingRefused a n s ws (answer_or (post_refusal a m ws) (answer_of out))
     post_refused = refused_rightly a m ws counted Counted is_counted not_counted (PostingLacks a n s ws) (answer_of out)
         (λ _. unrefused out ((only_products a laws).overflows s (numbers_of a (take n ws)) (number_of a (get_or ws n (pos 0)))))
 
@@ -196,6 +196,9 @@ module _ {N C : Type 0} (a : Arithmetic N C) (laws : Laws a) where
         by (Some fault) q = refl
         by None q = let enough = room (postable q).some in outcome_cells enough out (leaves enough)
 
+    pub post_refusals : PostingRefused a n s ws (post_answer a m ws)
+    post_refusals = subst (PostingRefused a n s ws) (same_answer (post_refusal a m ws)) post_refused
+
     pub post_law : (post_refusal a m ws ≡ None → AllByRecursion (SFits w32) ws) → (lent : Memory) → CallLaw a m (posting ws) lent (post_answer a m ws) (post_left a m ws) lent
     post_law fit lent = record {
       unknowns = post_unknowns;
@@ -209,10 +212,11 @@ module _ {N C : Type 0} (a : Arithmetic N C) (laws : Laws a) where
 
 -- what an answer and the sheet left come with, once they are those of the posting
 pub record PostKeeps {N C : Type 0} (a : Arithmetic N C) (m : Model C) (ws : List ℤ) (r : Answer) (after : Model C) : Type 0 where
+  pub refusals : PostingRefused a m.unknowns (contents_of a m) ws r
   pub law : (lent : Memory) → CallLaw a m (posting ws) lent r after lent
   pub wiped : post_refusal a m ws ≡ None → SpareZero a after
 
 pub post_keeps : {N C : Type 0} (a : Arithmetic N C) (laws : Laws a) (m : Model C) → m.moves ≤ m.unknowns → HasCells m.unknowns m.cells → (ws : List ℤ) →
     (post_refusal a m ws ≡ None → AllByRecursion (SFits w32) ws) → (r : Answer) (after : Model C) → r ≡ post_answer a m ws → after ≡ post_left a m ws → PostKeeps a m ws r after
 post_keeps a laws m few room ws fit r after e f =
-    subst₂ (PostKeeps a m ws) (sym e) (sym f) (record { law = post_law a laws m few room ws fit; wiped = post_wipes a laws m few room ws })
+    subst₂ (PostKeeps a m ws) (sym e) (sym f) (record { refusals = post_refusals a laws m few room ws; law = post_law a laws m few room ws fit; wiped = post_wipes a laws m few room ws })

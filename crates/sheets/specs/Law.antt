@@ -68,9 +68,13 @@ module _ {N C : Type 0} (a : Arithmetic N C) where
   abbrev pub PostingLacks : ℕ → Contents N → List ℤ → Type 0
   PostingLacks n s ws = Lacking a s (numbers_of a (take n ws)) (number_of a (slice_index_or ws n (pos 0)))
 
+  -- the words ws, posted to a sheet of n unknowns that holds s, are refused in exactly these cases
+  abbrev pub PostingRefused : ℕ → Contents N → List ℤ → Answer → Type 0
+  PostingRefused n s ws r = RightlyRefused n ws (length ws ≡ n + 1) (PostingLacks n s ws) r
+
   -- the words ws, posted to a sheet of n unknowns that holds s, with the equations es in force, are rightly answered r
   pub record RightlyPosted (n : ℕ) (es : List Equation) (s : Contents N) (ws : List ℤ) (r : Answer) : Type 0 where
-    pub refused : RightlyRefused n ws (length ws ≡ n + 1) (PostingLacks n s ws) r
+    pub refused : PostingRefused n s ws r
     -- any other answer says which of the plans that meet every equation in force meet the posted one too: all, some and
     -- not all, or none
     pub verdict : GoesThrough r → (j : Judgement) × (r ≡ verdict_answer j) × Verdict a.modulus n es (equation_of n ws) j

@@ -7,9 +7,10 @@ ghost use Rattle.lines.specs.Page.{Model as PageModel, model as page_model};
 ghost use Rattle.sheets.specs.Answers.{plain_answer};
 ghost use Rattle.sheets.specs.Calls.{sheet_call, posting, clearing, picking, showing, Memory, memory, answer_to, sheet_after, memory_after};
 ghost use Rattle.sheets.specs.Clearing.{clear_answer, clear_left};
-ghost use Rattle.sheets.specs.Law.{StandsFor, Sound, SpareZero, CallLaw};
+ghost use Rattle.plans.specs.Solution.{MakesPlan};
+ghost use Rattle.sheets.specs.Law.{StandsFor, Sound, SpareZero, PostingRefused, CallLaw};
 ghost use Rattle.sheets.specs.Picking.{pick_refusal, pick_answer, pick_left};
-ghost use Rattle.sheets.specs.Sheet.{model, outline_of, asked as asked_of, checked, opened, stands as stands_of, empty_sheet, resume_answer, resume_left, post_refusal, post_answer, post_left};
+ghost use Rattle.sheets.specs.Sheet.{model, contents_of, outline_of, asked as asked_of, checked, opened, stands as stands_of, empty_sheet, resume_answer, resume_left, post_refusal, post_answer, post_left};
 ghost use Rattle.sheets.specs.Showing.{show_answer, show_left};
 
 use super::Sheet;
@@ -134,6 +135,8 @@ impl<K: Kind> Sheet<'_, K> {
         ensures held { self.new.cells.ghost_name ≡ self.old.cells.ghost_name }
         ensures answer { result ≡ post_answer K.Kind.arith (model self.old) words.now }
         ensures left { model self.new ≡ post_left K.Kind.arith (model self.old) words.now }
+        ensures refusals { PostingRefused K.Kind.arith (model self.old).unknowns
+            (contents_of K.Kind.arith (model self.old)) words.now result }
         ensures law { (lent : Memory) → CallLaw K.Kind.arith (model self.old)
             (posting words.now) lent result (model self.new) lent }
         ensures wiped { post_refusal K.Kind.arith (model self.old) words.now ≡ None →
@@ -186,6 +189,8 @@ impl<K: Kind> Sheet<'_, K> {
     pub fn pick(&self, choice: &[i32], plan: &mut [i32]) -> Result<(), SheetFault>
         ensures answer { result ≡ pick_answer K.Kind.arith (model self.now) choice.now plan.old }
         ensures left { plan.new ≡ pick_left K.Kind.arith (model self.now) choice.now plan.old }
+        ensures made { OnOk result (MakesPlan K.Kind.arith
+            (contents_of K.Kind.arith (model self.now)) choice.now plan.new) }
         ensures law { (page : PageModel) → CallLaw K.Kind.arith (model self.now)
             (picking choice.now) (memory plan.old page)
             (plain_answer result) (model self.now) (memory plan.new page) }

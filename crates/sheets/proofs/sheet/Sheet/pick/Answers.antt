@@ -1,9 +1,10 @@
 -- `Sheet::pick`: its clauses hold where it returns.
 use Rattle.std.proofs.Common.{◌≡◌, length, take, Some, None, Ok, Result, sym, ◌∙◌, subst, rules}
 use Rattle.faults.specs.declared.SheetFault.{SheetFault}
+use Rattle.plans.specs.Solution.{MakesPlan}
 use Rattle.sheets.specs.Picking.{Planned, pick_refusal, plan_in, pick_unless, words_unless, pick_answer, pick_left}
-use Rattle.sheets.specs.Sheet.{model}
-use Rattle.sheets.proofs.PickLaws.{pick_keeps, pickable}
+use Rattle.sheets.specs.Sheet.{model, contents_of}
+use Rattle.sheets.proofs.PickLaws.{pick_keeps, pick_made, pickable}
 use Rattle.sheets.proofs.Refusals.{done_none, undone}
 use Rattle.sheets.proofs.sheet.Sheet.pick.Goals as goal
 
@@ -26,6 +27,7 @@ returns g c =
     record {
       answer = answer;
       left = left;
+      made = subst (MakesPlan a (contents_of a m) choice) (sym left) (pick_made a g.met.K.Kind.kept m c.args.self.now.shape.few c.args.self.now.cells_enough choice plan (λ _. c.in_ok-check_pick.ensures.fit) (sym answer));
       law = pick_keeps a g.met.K.Kind.kept m c.args.self.now.shape.few c.args.self.now.cells_enough choice plan (λ _. c.in_ok-check_pick.ensures.fit) r c.copy_from_slice.new.self answer left;
     }
 

@@ -18,7 +18,7 @@ returns-in_err-check_post g c =
     let answer : c.from_residual.result ≡ post_answer a m ws = e ∙ (search rules) in
     let left : m ≡ post_left a m ws = search rules in
     let k = post_keeps a g.met.K.Kind.kept m c.args.self.now.shape.few c.args.self.now.cells_enough ws (λ e. absurd cc) c.from_residual.result m answer left in
-    record { held = refl; answer = answer; left = left; law = k.law; wiped = k.wiped }
+    record { held = refl; answer = answer; left = left; refusals = k.refusals; law = k.law; wiped = k.wiped }
 
 pub returns-in-Ok-Done : goal.returns-in-Ok-Done
 returns-in-Ok-Done g c =
@@ -31,7 +31,7 @@ returns-in-Ok-Done g c =
     let answer : r ≡ post_answer a m ws = search rules in
     let left : after ≡ post_left a m ws = search rules in
     let k = post_keeps a g.met.K.Kind.kept m s.few c.args.self.now.cells_enough ws (λ _. c.in_ok-check_post.ensures.fit) r after answer left in
-    record { held = refl; answer = answer; left = left; law = k.law; wiped = k.wiped }
+    record { held = refl; answer = answer; left = left; refusals = k.refusals; law = k.law; wiped = k.wiped }
 
 pub returns-in_ok-check_post : goal.returns-in_ok-check_post
 returns-in_ok-check_post g c =
@@ -44,7 +44,7 @@ returns-in_ok-check_post g c =
     let answer : r ≡ post_answer a m ws = search rules in
     let left : after ≡ post_left a m ws = search rules in
     let k = post_keeps a g.met.K.Kind.kept m s.few c.args.self.now.cells_enough ws (λ _. c.in_ok-check_post.ensures.fit) r after answer left in
-    record { held = refl; answer = answer; left = left; law = k.law; wiped = k.wiped }
+    record { held = refl; answer = answer; left = left; refusals = k.refusals; law = k.law; wiped = k.wiped }
 
 pub returns-in_ok-check_post-2 : goal.returns-in_ok-check_post-2
 returns-in_ok-check_post-2 g c =
@@ -57,4 +57,4 @@ returns-in_ok-check_post-2 g c =
     let answer : r ≡ post_answer a m ws = search rules in
     let left : after ≡ post_left a m ws = search rules in
     let k = post_keeps a g.met.K.Kind.kept m s.few c.args.self.now.cells_enough ws (λ _. c.in_ok-check_post.ensures.fit) r after answer left in
-    record { held = refl; answer = answer; left = left; law = k.law; wiped = k.wiped }
+    record { held = refl; answer = answer; left = left; refusals = k.refusals; law = k.law; wiped = k.wiped }
