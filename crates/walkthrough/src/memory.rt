@@ -1,4 +1,6 @@
 // The steps of a list, and the memory of which each is lent a part of its own.
+ghost use Rattle.std.specs.Prelude.{◌≡◌};
+
 use faults::SheetFault;
 use lines::page::Page;
 use runs::step::Step;
@@ -28,7 +30,9 @@ fn cut<'a, T>(left: &mut &'a mut [T], n: usize) -> &'a mut [T] {
 
 impl<'a> Memory<'a> {
     // A step that is lent words for a plan and so many bytes of the page.
-    fn step(&mut self, call: Call<'a>, bytes: usize) -> Step<'a> {
+    fn step(&mut self, call: Call<'a>, bytes: usize) -> Step<'a>
+        ensures { result.call ≡ call.entry }
+    {
         Step {
             call,
             words: cut(&mut self.words, self.count),
